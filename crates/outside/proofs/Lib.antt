@@ -1,0 +1,2 @@
+mod LawFiles
+mod LawPieces

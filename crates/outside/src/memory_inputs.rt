@@ -1,0 +1,163 @@
+ghost use Rattle.std.specs.Prelude.{◌≡◌, ◌<◌, ◌≤◌, ℕ, not, false, ◌++◌, length, take, drop, IfOk, IsTrue, Some, []};
+ghost use Rattle.std.specs.Io.{ReadsAtMost};
+ghost use Rattle.std.specs.Io.KnownBytes.{ReadConsumes};
+ghost use Rattle.outside.specs.Faults.{HasCause};
+ghost use Rattle.outside.specs.Files.{Starts, files_of, has_file, names_differ};
+ghost use Rattle.outside.specs.Script.{Called, FailsAsListed, IsPlaceOf, content_at};
+
+use crate::script::{copy_front, is_refused};
+use crate::{Failed, Inputs};
+use std::marker::Model;
+
+/// Where the next read begins: a place among the files, and how many of its bytes were read.
+#[derive(Clone, Copy)]
+struct Reading {
+    place: usize,
+    offset: usize,
+}
+
+/// Inputs in memory, which tell all. Calls of `start` and `read` are numbered together from 0.
+#[derive(Drop)]
+pub struct MemInputs {
+    files: Vec<(String, Vec<u8>)>,
+    fails: Vec<u64>,
+    piece: usize,
+    calls: u64,
+    faults: u64,
+    reading: Option<Reading>,
+}
+
+impl Model for MemInputs {
+    ghost use Rattle.std.specs.Prelude.{◌<◌};
+    ghost use Rattle.outside.specs.Files.{files_of};
+    ghost use Rattle.outside.specs.Script.{Script, left_of};
+
+    ghost Value = { Script };
+
+    ghost view = { λ m. record {
+      files = files_of m.files.items;
+      fails = m.fails.items;
+      piece = m.piece;
+      calls = m.calls;
+      faults = m.faults;
+      left = left_of m.files.items m.reading;
+    } };
+
+    ghost invariant = { λ m. 0 < m.piece };
+}
+
+impl MemInputs {
+    /// Files under names that differ; a read gives at most `piece` bytes. The calls whose numbers are in
+    /// `fails` fail, and so does a start of a name that no file has; no other call does.
+    pub fn new(files: Vec<(String, Vec<u8>)>, fails: Vec<u64>, piece: usize) -> Self
+        requires names { IsTrue (names_differ (files_of files.items)) }
+        requires piece { 0 < piece }
+        ensures { result ≡ record {
+          files = files_of files.items;
+          fails = fails.items;
+          piece = piece;
+          calls = 0;
+          faults = 0;
+          left = [];
+        } }
+    {
+        MemInputs {
+            files,
+            fails,
+            piece,
+            calls: 0,
+            faults: 0,
+            reading: None,
+        }
+    }
+}
+
+// The place of the file of this name.
+fn place_of(files: &[(String, Vec<u8>)], name: &str) -> Option<usize>
+    ensures { IsPlaceOf files.now name.now result }
+{
+    for (place, file) in files.iter().enumerate() {
+        if file.0.as_str() == name {
+            return Some(place);
+        }
+    }
+    None
+}
+
+// The bytes of the file at this place.
+fn content_of(files: &[(String, Vec<u8>)], place: usize) -> &[u8]
+    ensures { result.now ≡ content_at files.now place }
+{
+    match files.get(place) {
+        Some(file) => &file.1,
+        None => &[],
+    }
+}
+
+// Reads on, at most `piece` bytes, and gives their number.
+fn read_on(content: &[u8], offset: &mut usize, buf: &mut [u8], piece: usize) -> usize
+    requires { 0 < piece }
+    ensures bound { result ≤ length buf.new }
+    ensures piece { result ≤ piece }
+    ensures left { drop offset.old content.now ≡ take result buf.new ++ drop offset.new content.now }
+    ensures end { result ≡ 0 → 0 < length buf.new → drop offset.new content.now ≡ [] }
+{
+    let rest = content.get(*offset..).unwrap_or(&[]);
+    let count = copy_front(rest, buf, piece);
+    *offset += count;
+    count
+}
+
+impl Inputs for MemInputs {
+    ghost faults = { λ m. m.faults };
+
+    ghost files = { λ m. Some m.files };
+
+    ghost left = { λ m. Some m.left };
+
+    fn start(&mut self, name: &str) -> Result<(), Failed>
+        ensures files { self.new.files ≡ self.old.files }
+        ensures left { Starts (Some self.old.files) (Some self.old.left) (Some self.new.left) name.now result }
+        ensures cause { HasCause self.old.faults self.new.faults result }
+        ensures fails { FailsAsListed self.old (not (has_file self.old.files name.now)) result }
+        ensures called { Called self.old self.new }
+    {
+        self.reading = None;
+        if is_refused(&self.fails, &mut self.calls) {
+            self.faults = self.faults.saturating_add(1);
+            return Err(Failed);
+        }
+        match place_of(&self.files, name) {
+            Some(place) => {
+                self.reading = Some(Reading { place, offset: 0 });
+                Ok(())
+            }
+            None => {
+                self.faults = self.faults.saturating_add(1);
+                Err(Failed)
+            }
+        }
+    }
+
+    fn read(&mut self, buf: &mut [u8]) -> Result<usize, Failed>
+        ensures bound { ReadsAtMost result buf.new }
+        ensures files { self.new.files ≡ self.old.files }
+        ensures left { ReadConsumes (Some self.old.left) (Some self.new.left) result buf.new }
+        ensures cause { HasCause self.old.faults self.new.faults result }
+        ensures fails { FailsAsListed self.old false result }
+        ensures piece { IfOk result (λ n. n ≤ self.old.piece) }
+        ensures called { Called self.old self.new }
+    {
+        if is_refused(&self.fails, &mut self.calls) {
+            self.faults = self.faults.saturating_add(1);
+            return Err(Failed);
+        }
+        let Some(mut reading) = self.reading else {
+            return Ok(0);
+        };
+        let content = content_of(&self.files, reading.place);
+        let count = read_on(content, &mut reading.offset, buf, self.piece);
+        self.reading = Some(reading);
+        Ok(count)
+    }
+}

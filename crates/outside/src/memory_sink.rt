@@ -1,0 +1,95 @@
+ghost use Rattle.std.specs.Prelude.{◌≡◌, ◌<◌, ◌≤◌, length, vec_len, IfOk, Some, []};
+ghost use Rattle.std.specs.Io.KnownBytes.{WriteAppends};
+ghost use Rattle.outside.specs.Faults.{HasCause};
+ghost use Rattle.outside.specs.Script.{SinkFails, SinkCalled};
+ghost use Rattle.outside.specs.Taken.{TakesSome};
+
+use crate::script::{append_front, is_refused};
+use crate::{Failed, Sink};
+use std::marker::Model;
+
+/// A sink in memory, which tells all. Calls of `write` are numbered from 0.
+#[derive(Drop)]
+pub struct MemSink {
+    space: Vec<u8>,
+    used: usize,
+    fails: Vec<u64>,
+    piece: usize,
+    calls: u64,
+    faults: u64,
+}
+
+impl Model for MemSink {
+    ghost use Rattle.std.specs.Prelude.{◌<◌, ◌≤◌, take, vec_len};
+    ghost use Rattle.outside.specs.Script.{Record};
+
+    ghost Value = { Record };
+
+    ghost view = { λ s. record {
+      room = vec_len s.space;
+      fails = s.fails.items;
+      piece = s.piece;
+      calls = s.calls;
+      faults = s.faults;
+      written = take s.used s.space.items;
+    } };
+
+    ghost invariant = { λ s. (0 < s.piece) × (s.used ≤ vec_len s.space) };
+}
+
+impl MemSink {
+    /// A sink that keeps what is written in `space`, which bounds it: no call takes memory. A write takes
+    /// at most `piece` bytes. The calls whose numbers are in `fails` fail, and so does a write of
+    /// something once all of the space is used; no other call does.
+    pub fn new(space: Vec<u8>, fails: Vec<u64>, piece: usize) -> Self
+        requires { 0 < piece }
+        ensures { result ≡ record {
+          room = vec_len space;
+          fails = fails.items;
+          piece = piece;
+          calls = 0;
+          faults = 0;
+          written = [];
+        } }
+    {
+        MemSink {
+            space,
+            used: 0,
+            fails,
+            piece,
+            calls: 0,
+            faults: 0,
+        }
+    }
+
+    /// What was written so far.
+    pub fn bytes(&self) -> &[u8]
+        ensures { result.now ≡ self.now.written }
+    {
+        &self.space[..self.used]
+    }
+}
+
+impl Sink for MemSink {
+    ghost faults = { λ s. s.faults };
+
+    ghost written = { λ s. Some s.written };
+
+    fn write(&mut self, piece: &[u8]) -> Result<usize, Failed>
+        ensures bound { TakesSome piece.now result }
+        ensures written { WriteAppends (Some self.old.written) (Some self.new.written) result piece.now }
+        ensures cause { HasCause self.old.faults self.new.faults result }
+        ensures fails { SinkFails self.old piece.now result }
+        ensures piece { IfOk result (λ n. n ≤ self.old.piece) }
+        ensures called { SinkCalled self.old self.new }
+    {
+        let is_full = self.used == self.space.len() && !piece.is_empty();
+        if is_refused(&self.fails, &mut self.calls) || is_full {
+            self.faults = self.faults.saturating_add(1);
+            return Err(Failed);
+        }
+        let count = append_front(piece, &mut self.space, self.used, self.piece);
+        self.used += count;
+        Ok(count)
+    }
+}

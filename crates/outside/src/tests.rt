@@ -1,0 +1,91 @@
+use super::*;
+use std::alloc::Global;
+use std::io::Cursor;
+use std::test::Fail;
+
+// A sink with room for `room` bytes that takes one byte a write.
+fn narrow_sink(alloc: Global, room: usize, fails: &[u64]) -> Result<MemSink, Fail> {
+    let space = vec![in alloc; 0u8; room]?;
+    Ok(MemSink::new(space, fails.to_vec(alloc)?, 1))
+}
+
+#[test]
+fn writes_in_pieces(rt: HostRuntime) -> Result<(), Fail> {
+    let mut out = narrow_sink(rt.alloc(), 8, &[])?;
+    write_whole(&mut out, b"row")?;
+    write_whole(&mut out, b"s\n")?;
+    assert_eq!(rt; out.bytes(), b"rows\n".as_slice());
+    Ok(())
+}
+
+#[test]
+fn a_failed_write_leaves_a_front(rt: HostRuntime) -> Result<(), Fail> {
+    // Each of the calls fails in turn, and the write past the room.
+    for (fails, room, front) in [(0, 8, 0), (1, 8, 1), (2, 8, 2), (9, 2, 2)] {
+        let mut out = narrow_sink(rt.alloc(), room, &[fails])?;
+        assert_eq!(rt;
+            write_whole(&mut out, b"row"),
+            Err(Failed),
+            "at call {fails}"
+        );
+        assert_eq!(rt; out.bytes().len(), front, "at call {fails}");
+    }
+    Ok(())
+}
+
+// Files `a` and `b`, read two bytes at a time.
+fn two_files(alloc: Global, fails: &[u64]) -> Result<MemInputs, Fail> {
+    let mut files = Vec::new(alloc);
+    files.push((String::from_str(alloc, "a")?, b"123".to_vec(alloc)?))?;
+    files.push((String::from_str(alloc, "b")?, b"45".to_vec(alloc)?))?;
+    Ok(MemInputs::new(files, fails.to_vec(alloc)?, 2))
+}
+
+#[test]
+fn reads_the_started_file_in_pieces(rt: HostRuntime) -> Result<(), Fail> {
+    let mut inputs = two_files(rt.alloc(), &[])?;
+    let mut buf = [0u8; 8];
+    assert_eq!(rt; inputs.read(&mut buf), Ok(0), "nothing is started");
+    for (name, counts) in [("a", [2, 1, 0]), ("b", [2, 0, 0])] {
+        inputs.start(name)?;
+        for count in counts {
+            assert_eq!(rt; inputs.read(&mut buf), Ok(count), "in {name}");
+        }
+    }
+    assert_eq!(rt; inputs.start("c"), Err(Failed), "there is no such file");
+    Ok(())
+}
+
+#[test]
+fn a_failed_read_takes_nothing(rt: HostRuntime) -> Result<(), Fail> {
+    let mut inputs = two_files(rt.alloc(), &[1])?;
+    let mut buf = [0u8; 8];
+    inputs.start("a")?;
+    assert_eq!(rt; inputs.read(&mut buf), Err(Failed));
+    assert_eq!(rt; inputs.read(&mut buf), Ok(2));
+    assert_eq!(rt; buf[..2], b"12"[..]);
+    Ok(())
+}
+
+#[test]
+fn the_real_ones_count_what_the_system_refuses(rt: HostRuntime) -> Result<(), Fail> {
+    let mut space = [0u8; 4];
+    let mut out = RealSink::over(Cursor::new(space.as_mut_slice()));
+    assert_eq!(rt; write_whole(&mut out, b"rows"), Ok(()));
+    assert_eq!(rt;
+        write_whole(&mut out, b"\n"),
+        Err(Failed),
+        "there is no room"
+    );
+
+    let mut inputs = RealInputs::new(rt.clone()?);
+    assert_eq!(rt; inputs.start("no such file"), Err(Failed));
+    assert_eq!(rt; inputs.read(&mut [0u8; 4]), Ok(0), "nothing is started");
+    Ok(())
+}
+
+#[test]
+fn the_open_gate_holds_nobody() {
+    OpenGate.before(0, 0);
+    OpenGate.after(0, 0);
+}

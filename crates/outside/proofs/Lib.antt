@@ -1,2 +1,2 @@
 mod LawFiles
-mod LawPieces
+pub mod LawPieces

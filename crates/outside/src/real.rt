@@ -1,4 +1,4 @@
-ghost use Rattle.std.specs.Prelude.{None};
+ghost use Rattle.std.specs.Prelude.{◌≡◌, None};
 
 use crate::{Failed, Inputs, Sink};
 use std::fs;
@@ -15,7 +15,9 @@ pub struct RealInputs<R: Files + Drop> {
 
 impl<R: Files + Drop> RealInputs<R> {
     /// No file is started yet, and no fault was met.
-    pub fn new(rt: R) -> Self {
+    pub fn new(rt: R) -> Self
+        ensures { ⟦<RealInputs<R> as Inputs>⟧.faults result ≡ 0 }
+    {
         RealInputs {
             rt,
             open: None,
@@ -68,7 +70,9 @@ pub struct RealSink<W: Write> {
 
 impl<W: Write> RealSink<W> {
     /// No fault was met yet.
-    pub fn over(writer: W) -> Self {
+    pub fn over(writer: W) -> Self
+        ensures { ⟦<RealSink<W> as Sink>⟧.faults result ≡ 0 }
+    {
         RealSink { writer, faults: 0 }
     }
 }

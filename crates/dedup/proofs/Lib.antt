@@ -1,0 +1,4 @@
+mod LawFront
+mod LawId
+mod LawJudges
+mod LoopLines

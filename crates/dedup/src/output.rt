@@ -1,0 +1,32 @@
+// The output as one text.
+ghost use Rattle.std.specs.Prelude.{◌≡◌, IfOk, flat_map};
+ghost use Rattle.set_model.specs.Keys.{keys_set};
+ghost use Rattle.dedup.specs.Plain.{id_line};
+
+use itoa::Buffer;
+use set_model::{Call, NoMemory, PlainSet};
+use std::alloc::Global;
+
+/// The set of the ids.
+pub(crate) fn distinct(alloc: Global, ids: &[u64]) -> Result<PlainSet, NoMemory>
+    ensures { IfOk result (λ set. set ≡ keys_set ids.now) }
+{
+    let mut set = PlainSet::new(alloc);
+    for id in ids {
+        set.apply(Call::Insert, *id)?;
+    }
+    Ok(set)
+}
+
+/// Each id on a line of its own.
+pub(crate) fn id_lines(alloc: Global, ids: &[u64]) -> Result<Vec<u8>, NoMemory>
+    ensures { IfOk result (λ text. text.items ≡ flat_map id_line ids.now) }
+{
+    let mut text = Vec::new(alloc);
+    let mut digits = Buffer::new();
+    for id in ids {
+        text.extend_from_slice(digits.format(*id).as_bytes())?;
+        text.push(b'\n')?;
+    }
+    Ok(text)
+}

@@ -1,1 +1,1 @@
-mod LawKeys
+pub mod LawKeys

@@ -1,0 +1,23 @@
+// Where the words lie: the fixed words from the front on, then each block's own words.
+
+/// The word that holds the address of the head generation.
+pub const HEAD: u64 = 0;
+
+/// The word that holds the number of the first word never drawn.
+pub const NEXT: u64 = 1;
+
+/// The word that holds the next ticket, 0 at opening.
+pub const TICKET: u64 = 2;
+
+/// The first announce word. Each pass has one, and the arena begins behind the last.
+pub const FIRST_ANNOUNCED: u64 = 3;
+
+/// The first bucket word of a generation, counted from the generation's address.
+pub const FIRST_BUCKET: u64 = 2;
+
+/// The first key of a row, counted from the row's address.
+pub const FIRST_KEY: u64 = 3;
+
+/// The factor of a key's spot: 2^64 divided by the golden ratio, as in multiplicative hashing
+/// (Knuth, The Art of Computer Programming, volume 3, section 6.4).
+pub const SPOT_FACTOR: u64 = 11400714819323198485;

@@ -1,0 +1,124 @@
+ghost use Rattle.std.specs.Prelude.{◌≡◌, ◌+◌, ◌≤◌, ◌∷◌, [], length, IfOk};
+ghost use Rattle.step_core.specs.Drawn.{HasReplaced};
+ghost use Rattle.step_core.specs.Fits.{IsWellFormed};
+ghost use Rattle.step_core.specs.Format.{next_of};
+ghost use Rattle.step_core.specs.Openings.{opening_of};
+ghost use Rattle.step_core.specs.Single.{HasOneBucket};
+
+use super::*;
+use set_model::NoMemory;
+use std::alloc::Global;
+use std::test::Fail;
+
+fn open_for_one(alloc: Global) -> Result<Words, NoMemory>
+    ensures words { IfOk result (λ words. words ≡ opening_of 1 20) }
+    ensures well_formed { IfOk result IsWellFormed }
+    ensures single { IfOk result HasOneBucket }
+{
+    opening(alloc, &Layout { seats: 1, cap: 20 }, &[])
+}
+
+// What a lone caller does to put a row of one key in the place of the only row.
+fn put_only_key(words: &mut Words, key: u64)
+    requires well_formed { IsWellFormed words.old }
+    requires single { HasOneBucket words.old }
+    requires room { next_of words.old + 4 ≤ length words.old }
+    requires fits { length words.old ≤ 1000 }
+    ensures { HasReplaced words.old words.new (key ∷ []) }
+{
+    let bucket = step(words, Step::LoadHead) + FIRST_BUCKET;
+    let found = step(words, Step::LoadBucket { at: bucket });
+    let row = step(words, Step::Draw { len: 4 });
+    step(words, Step::Write { at: row, value: 1 });
+    step(
+        words,
+        Step::Write {
+            at: row + 1,
+            value: 0,
+        },
+    );
+    step(
+        words,
+        Step::Write {
+            at: row + 2,
+            value: 0,
+        },
+    );
+    step(
+        words,
+        Step::Write {
+            at: row + 3,
+            value: key,
+        },
+    );
+    step(
+        words,
+        Step::SwapRow {
+            at: bucket,
+            old: found,
+            new: 2 * row,
+        },
+    );
+}
+
+// The first words of docs/FORMAT.md's example. An opening whose NEXT is one short would fail here too.
+#[test]
+fn an_opening_without_keys_has_no_members(rt: HostRuntime) -> Result<(), Fail> {
+    let words = open_for_one(rt.alloc())?;
+    assert_eq!(rt; words.len(), 20);
+    assert_eq!(rt; words.word(0), 4);
+    assert_eq!(rt; words.word(1), 10);
+    assert_eq!(rt; words.word(6), 14);
+    assert_eq!(rt; live_keys(rt.alloc(), &words)?.as_slice(), [].as_slice());
+    Ok(())
+}
+
+// The example of docs/FORMAT.md: the key 1 goes into a row at 10.
+#[test]
+fn an_insert_is_a_draw_writes_and_a_swap(rt: HostRuntime) -> Result<(), Fail> {
+    let mut words = open_for_one(rt.alloc())?;
+    put_only_key(&mut words, 1);
+    assert_eq!(rt; words.len(), 20);
+    assert_eq!(rt; words.word(1), 14);
+    assert_eq!(rt; words.word(6), 20);
+    assert_eq!(rt; live_keys(rt.alloc(), &words)?.as_slice(), [1].as_slice());
+    Ok(())
+}
+
+// Each kind of step once, with the number that it gives and the word that it leaves.
+#[test]
+fn each_kind_of_step_does_what_its_row_says(rt: HostRuntime) -> Result<(), Fail> {
+    let mut words = open_for_one(rt.alloc())?;
+    assert_eq!(rt; step(&mut words, Step::LoadHead), 4);
+    assert_eq!(rt; step(&mut words, Step::LoadSealed { at: 5 }), 0);
+    assert_eq!(rt; step(&mut words, Step::LoadBucket { at: 6 }), 14);
+    assert_eq!(rt; step(&mut words, Step::Draw { len: 4 }), 10);
+    assert_eq!(rt; words.word(1), 14);
+    assert_eq!(rt; step(&mut words, Step::Write { at: 13, value: 9 }), 9);
+    assert_eq!(rt; words.word(13), 9);
+    assert_eq!(rt;
+        step(
+            &mut words,
+            Step::SwapRow {
+                at: 6,
+                old: 16,
+                new: 20
+            }
+        ),
+        14
+    );
+    assert_eq!(rt; words.word(6), 14, "a lost swap");
+    assert_eq!(rt;
+        step(
+            &mut words,
+            Step::SwapRow {
+                at: 6,
+                old: 14,
+                new: 20
+            }
+        ),
+        14
+    );
+    assert_eq!(rt; words.word(6), 20, "a won swap");
+    Ok(())
+}

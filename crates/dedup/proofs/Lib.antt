@@ -1,4 +1,6 @@
 mod LawFront
 mod LawId
 mod LawJudges
+mod LawRow
+mod LawTable
 mod LoopLines

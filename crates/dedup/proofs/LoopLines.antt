@@ -1,8 +1,8 @@
 -- A plain file is cut into its lines in one way.
-use Rattle.std.proofs.Common.{◌≡◌, ◌≢◌, ℕ, ◌<◌, ◌≤◌, List, [], ◌∷◌, ◌++◌, length, get_or, map, refl, sym, ap, subst, ◌∙◌, append_assoc, append-nil, length-append, arith}
+use Rattle.std.proofs.Common.{◌≡◌, ◌≢◌, ℕ, ◌*◌, ◌<◌, ◌≤◌, List, [], ◌∷◌, ◌++◌, length, get_or, map, refl, sym, ap, subst, ◌∙◌, append_assoc, append-nil, length-append, arith}
 use Rattle.std.proofs.lemmas.Grind.{get_or_default_zero}
 use Rattle.std.proofs.lemmas.Grind.{flat_map-append}
-use Rattle.std.proofs.lemmas.List.{map_push}
+use Rattle.std.proofs.lemmas.List.{length-map, map_push}
 use Rattle.std.proofs.lemmas.List.Elements.{All-tail}
 use Rattle.std.proofs.lemmas.Str.Parse.{digit_at}
 use Rattle.std.proofs.Math.Seq.{get_or-append_seam}
@@ -11,6 +11,7 @@ use Rattle.std.specs.Prelude.{All, flat_map}
 use Rattle.std.specs.List.{AllByRecursion}
 use Rattle.dedup.specs.Plain.{IsId, IsPlain, id_of, line}
 use Rattle.dedup.specs.declared.plain.TheConstants.{LIMIT}
+use Rattle.dedup.specs.declared.table.TheConstants.{RECORDS}
 
 -- the file up to the rest is lines of these ids
 pub record ReadSoFar (file rest ids : List ℕ) : Type 0 where
@@ -101,3 +102,15 @@ pub no_id : (rest text behind : List ℕ) → rest ≡ text ++ 10 ∷ behind →
 no_id rest text behind e clean none (other, after, f, is) =
     let same = same_line text other behind after clean (no_newline other is.digits) (sym e ∙ f) in
     none (subst IsId (sym same.0) is)
+
+-- each line has two bytes at least
+lines_long : (texts : List (List ℕ)) → AllByRecursion IsId texts → 2 * length texts ≤ length (flat_map line texts)
+lines_long [] each = omega arith
+lines_long (text ∷ texts) each =
+    omega (arith, lines_long texts each.1, each.0.some, length-append (line text) (flat_map line texts), length-append text (10 ∷ []))
+
+-- so few ids are read of a short file
+pub few_ids : (file rest ids : List ℕ) → ReadSoFar file rest ids → length file ≤ LIMIT → length ids ≤ RECORDS
+few_ids file rest ids read short =
+    let whole = ap length read.whole ∙ length-append (flat_map line read.texts) rest in
+    omega (arith, whole, short, lines_long read.texts read.each, ap length read.values, length-map read.texts id_of)

@@ -11,6 +11,8 @@ mod load;
 mod output;
 mod plain;
 mod program;
+mod steps;
+mod table;
 mod words;
 
 pub use program::{Ended, out_of_memory, run};

@@ -1,22 +1,10 @@
 // The output as one text.
 ghost use Rattle.std.specs.Prelude.{◌≡◌, IfOk, flat_map};
-ghost use Rattle.set_model.specs.Keys.{keys_set};
 ghost use Rattle.dedup.specs.Plain.{id_line};
 
 use itoa::Buffer;
-use set_model::{Call, NoMemory, PlainSet};
+use set_model::NoMemory;
 use std::alloc::Global;
-
-/// The set of the ids.
-pub(crate) fn distinct(alloc: Global, ids: &[u64]) -> Result<PlainSet, NoMemory>
-    ensures { IfOk result (λ set. set ≡ keys_set ids.now) }
-{
-    let mut set = PlainSet::new(alloc);
-    for id in ids {
-        set.apply(Call::Insert, *id)?;
-    }
-    Ok(set)
-}
 
 /// Each id on a line of its own.
 pub(crate) fn id_lines(alloc: Global, ids: &[u64]) -> Result<Vec<u8>, NoMemory>

@@ -1,8 +1,9 @@
 // Plain files: lines of digits.
-ghost use Rattle.std.specs.Prelude.{◌≡◌, ◌≢◌, ◌+◌, ◌-◌, ◌*◌, ◌++◌, ◌∷◌, List, ℕ, All, map, IfOk, IfSome, IfNone, SomeIff, IsErrOf, OnErr, ◌⊎◌};
+ghost use Rattle.std.specs.Prelude.{◌≡◌, ◌≢◌, ◌+◌, ◌-◌, ◌*◌, ◌≤◌, length, ◌++◌, ◌∷◌, List, ℕ, All, map, IfOk, IfSome, IfNone, SomeIff, IsErrOf, OnErr, ◌⊎◌};
 ghost use Rattle.dedup.specs.Plain.{CanFollow, IsId, IsPlain, id_of};
 
 use crate::fault::Fault;
+use crate::table::RECORDS;
 use std::alloc::Global;
 
 /// The most bytes of a plain file.
@@ -14,6 +15,7 @@ pub(crate) const DIGITS: usize = 20;
 /// The ids of a plain file, in the order of its lines.
 pub(crate) fn ids_of(alloc: Global, file: &[u8]) -> Result<Vec<u64>, Fault>
     ensures ids { IfOk result (λ ids. (texts : List (List ℕ)) × IsPlain file.now texts × (ids.items ≡ map id_of texts)) }
+    ensures few { IfOk result (λ ids. length ids.items ≤ RECORDS) }
     ensures not_plain { IsErrOf result Fault.NotPlain → (texts : List (List ℕ)) → IsPlain file.now texts → ⊥ }
     ensures fault { OnErr result ((result ≡ Err Fault.NoMemory) ⊎ (result ≡ Err Fault.NotPlain)) }
 {

@@ -6,8 +6,9 @@ ghost use Rattle.dedup.specs.Words.{content_named, file_named, texts};
 
 use crate::fault::Fault;
 use crate::load::load;
-use crate::output::{distinct, id_lines};
+use crate::output::id_lines;
 use crate::plain::ids_of;
+use crate::table::distinct;
 use crate::words::file_named;
 use outside::{Gate, Inputs, Sink, write_whole};
 use std::alloc::Global;
@@ -91,8 +92,8 @@ fn output_of(alloc: Global, file: &[u8]) -> Result<Vec<u8>, Fault>
     ensures fault { OnErr result ((result ≡ Err Fault.NoMemory) ⊎ (result ≡ Err Fault.NotPlain)) }
 {
     let ids = ids_of(alloc, file)?;
-    let set = distinct(alloc, &ids)?;
-    Ok(id_lines(alloc, set.keys())?)
+    let keys = distinct(alloc, &ids)?;
+    Ok(id_lines(alloc, &keys)?)
 }
 
 // Writes the fault's line, and ends with its status.

@@ -1,6 +1,6 @@
 use Rattle.std.proofs.Common.{◌<◌, length, arith}
 use Rattle.std.proofs.lemmas.Bool.Decides.{nat_tests}
-use Rattle.dedup.proofs.LoopLines.{ReadSoFar-more, not_plain, no_line, no_id}
+use Rattle.dedup.proofs.LoopLines.{ReadSoFar-more, few_ids, not_plain, no_line, no_id}
 use Rattle.dedup.proofs.plain.ids_of.Goals as goal
 
 -- no LF is left
@@ -26,3 +26,7 @@ loop-rest-preserved c =
     let id = c.in-Some-id_of.ensures.found in
     let more = ReadSoFar-more c.args.file.now c.loop-rest.rest.now c.loop-rest.ids.items c.in-Some.text.now c.in-Some.behind.now c.in-Some-id_of.id c.loop-rest.invariant line.0 id.0 id.1 in
     rw c.in_ok-push.ensures.items more
+
+-- each line has two bytes
+pub returns-clause-few : goal.returns-clause-few
+returns-clause-few c = few_ids c.args.file.now c.loop-rest.rest.now c.loop-rest.ids.items c.loop-rest.invariant c.if-file-gt-LIMIT.false

@@ -4,7 +4,8 @@ use Rattle.std.specs.declared.alloc.Global.{Global}
 use Rattle.std.specs.List.{position_or_len}
 use Rattle.std.proofs.lemmas.Bool.Decides.{nat_tests}
 use Rattle.std.proofs.lemmas.List.Sums.{position_or_len_is}
-use Rattle.outside.specs.Files.{files_of, has_file, bytes_of}
+use Rattle.std.proofs.lemmas.Bool.{false≢true}
+use Rattle.outside.specs.Files.{Files, files_of, has_file, bytes_of}
 use Rattle.outside.specs.Script.{content_at, IsPlaceOf}
 
 one_plus : (n : ℕ) → 1 + n ≡ suc n
@@ -66,3 +67,12 @@ pub content_at-past : (files : List (String Global × Vec ℕ Global)) (place : 
 content_at-past [] place past = refl
 content_at-past (file ∷ files) zero past = absurd (omega (arith, past))
 content_at-past (file ∷ files) (suc place) past = content_at-past files place (omega (arith, past))
+
+-- a name that no file has has no bytes
+pub bytes_of-absent : (files : Files) (name : List ℕ) → has_file files name ≡ false → bytes_of files name ≡ []
+bytes_of-absent [] name gone = refl
+bytes_of-absent (file ∷ files) name gone =
+    elim (bytes_eq file.0 name) as (λ b. (b || has_file files name) ≡ false → cond b file.1 (bytes_of files name) ≡ []) [
+      | true ↦ λ e. absurd (false≢true (sym e))
+      | false ↦ λ e. bytes_of-absent files name e
+    ] gone

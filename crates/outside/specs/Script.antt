@@ -3,7 +3,7 @@ use Rattle.std.specs.Prelude.{◌≡◌, ℕ, zero, suc, ◌+◌, ◌-◌, ◌^�
 use Rattle.std.specs.declared.alloc.Global.{Global}
 use Rattle.std.specs.List.{list_any}
 use Rattle.outside.specs.Files.{Files, files_of, has_file, bytes_of}
-use Rattle.outside.specs.declared.memory_inputs.Reading.{Reading}
+use Rattle.outside.specs.declared.reading.Reading.{Reading}
 
 -- one more, standing still at the greatest value
 abbrev pub one_more : ℕ → ℕ
@@ -71,3 +71,8 @@ pub record SinkCalled (old new : Record) : Type 0 where
   pub room : new.room ≡ old.room
   pub fails : new.fails ≡ old.fails
   pub piece : new.piece ≡ old.piece
+
+-- Inputs in memory that never fail: the files, and what is left of the one that is read.
+pub record Shelf : Type 0 where
+  pub files : Files
+  pub left : List ℕ

@@ -8,16 +8,20 @@
 //! use is the test `writes_in_pieces`.
 #![tactic(auto)]
 
+mod count_sink;
 mod failed;
 mod gate;
 mod inputs;
 mod memory_inputs;
 mod memory_sink;
+mod reading;
 mod real;
 mod script;
 mod sink;
+mod steady;
 mod whole;
 
+pub use count_sink::CountSink;
 pub use failed::Failed;
 pub use gate::{Gate, OpenGate};
 pub use inputs::Inputs;
@@ -25,6 +29,7 @@ pub use memory_inputs::MemInputs;
 pub use memory_sink::MemSink;
 pub use real::{RealInputs, RealSink};
 pub use sink::Sink;
+pub use steady::SteadyInputs;
 pub use whole::write_whole;
 
 #[cfg(test)]

@@ -1,20 +1,14 @@
-ghost use Rattle.std.specs.Prelude.{◌≡◌, ◌<◌, ◌≤◌, ℕ, not, false, ◌++◌, length, take, drop, IfOk, IsTrue, Some, []};
+ghost use Rattle.std.specs.Prelude.{◌≡◌, ◌<◌, ◌≤◌, not, false, IfOk, IsTrue, Some, []};
 ghost use Rattle.std.specs.Io.{ReadsAtMost};
 ghost use Rattle.std.specs.Io.KnownBytes.{ReadConsumes};
 ghost use Rattle.outside.specs.Faults.{HasCause};
 ghost use Rattle.outside.specs.Files.{Starts, files_of, has_file, names_differ};
-ghost use Rattle.outside.specs.Script.{Called, FailsAsListed, IsPlaceOf, content_at};
+ghost use Rattle.outside.specs.Script.{Called, FailsAsListed};
 
-use crate::script::{copy_front, is_refused};
+use crate::reading::{Reading, content_of, place_of, read_on};
+use crate::script::is_refused;
 use crate::{Failed, Inputs};
 use std::marker::Model;
-
-/// Where the next read begins: a place among the files, and how many of its bytes were read.
-#[derive(Clone, Copy)]
-struct Reading {
-    place: usize,
-    offset: usize,
-}
 
 /// Inputs in memory, which tell all. Calls of `start` and `read` are numbered together from 0.
 #[derive(Drop)]
@@ -70,42 +64,6 @@ impl MemInputs {
             reading: None,
         }
     }
-}
-
-// The place of the file of this name.
-fn place_of(files: &[(String, Vec<u8>)], name: &str) -> Option<usize>
-    ensures { IsPlaceOf files.now name.now result }
-{
-    for (place, file) in files.iter().enumerate() {
-        if file.0.as_str() == name {
-            return Some(place);
-        }
-    }
-    None
-}
-
-// The bytes of the file at this place.
-fn content_of(files: &[(String, Vec<u8>)], place: usize) -> &[u8]
-    ensures { result.now ≡ content_at files.now place }
-{
-    match files.get(place) {
-        Some(file) => &file.1,
-        None => &[],
-    }
-}
-
-// Reads on, at most `piece` bytes, and gives their number.
-fn read_on(content: &[u8], offset: &mut usize, buf: &mut [u8], piece: usize) -> usize
-    requires { 0 < piece }
-    ensures bound { result ≤ length buf.new }
-    ensures piece { result ≤ piece }
-    ensures left { drop offset.old content.now ≡ take result buf.new ++ drop offset.new content.now }
-    ensures end { result ≡ 0 → 0 < length buf.new → drop offset.new content.now ≡ [] }
-{
-    let rest = content.get(*offset..).unwrap_or(&[]);
-    let count = copy_front(rest, buf, piece);
-    *offset += count;
-    count
 }
 
 impl Inputs for MemInputs {

@@ -1,3 +1,6 @@
+ghost use Rattle.std.specs.Prelude.{IfOk, IsTrue};
+ghost use Rattle.outside.specs.Files.{files_of, names_differ};
+
 use super::*;
 use std::alloc::Global;
 use std::io::Cursor;
@@ -33,38 +36,73 @@ fn a_failed_write_leaves_a_front(rt: HostRuntime) -> Result<(), Fail> {
     Ok(())
 }
 
-// Files `a` and `b`, read two bytes at a time.
-fn two_files(alloc: Global, fails: &[u64]) -> Result<MemInputs, Fail> {
+// Files `a` and `b`.
+fn two_files(alloc: Global) -> Result<Vec<(String, Vec<u8>)>, Fail>
+    ensures { IfOk result (λ files. IsTrue (names_differ (files_of files.items))) }
+{
     let mut files = Vec::new(alloc);
     files.push((String::from_str(alloc, "a")?, b"123".to_vec(alloc)?))?;
     files.push((String::from_str(alloc, "b")?, b"45".to_vec(alloc)?))?;
-    Ok(MemInputs::new(files, fails.to_vec(alloc)?, 2))
+    Ok(files)
+}
+
+// Those files, read two bytes at a time.
+fn narrow_inputs(alloc: Global, fails: &[u64]) -> Result<MemInputs, Fail> {
+    Ok(MemInputs::new(two_files(alloc)?, fails.to_vec(alloc)?, 2))
+}
+
+// What a start and reads of eight bytes at most give, through the bound alone.
+fn counts_of<I: Inputs>(inputs: &mut I, name: &str) -> Result<[usize; 3], Failed> {
+    let mut buf = [0u8; 8];
+    inputs.start(name)?;
+    Ok([
+        inputs.read(&mut buf)?,
+        inputs.read(&mut buf)?,
+        inputs.read(&mut buf)?,
+    ])
 }
 
 #[test]
 fn reads_the_started_file_in_pieces(rt: HostRuntime) -> Result<(), Fail> {
-    let mut inputs = two_files(rt.alloc(), &[])?;
-    let mut buf = [0u8; 8];
-    assert_eq!(rt; inputs.read(&mut buf), Ok(0), "nothing is started");
-    for (name, counts) in [("a", [2, 1, 0]), ("b", [2, 0, 0])] {
-        inputs.start(name)?;
-        for count in counts {
-            assert_eq!(rt; inputs.read(&mut buf), Ok(count), "in {name}");
-        }
-    }
-    assert_eq!(rt; inputs.start("c"), Err(Failed), "there is no such file");
+    let mut inputs = narrow_inputs(rt.alloc(), &[])?;
+    assert_eq!(rt; inputs.read(&mut [0u8; 8]), Ok(0), "nothing is started");
+    assert_eq!(rt; counts_of(&mut inputs, "a"), Ok([2, 1, 0]));
+    assert_eq!(rt; counts_of(&mut inputs, "b"), Ok([2, 0, 0]));
+    assert_eq!(rt;
+        counts_of(&mut inputs, "c"),
+        Err(Failed),
+        "there is no such file"
+    );
+    Ok(())
+}
+
+#[test]
+fn steady_inputs_read_whole_files(rt: HostRuntime) -> Result<(), Fail> {
+    let mut inputs = SteadyInputs::new(two_files(rt.alloc())?);
+    assert_eq!(rt; counts_of(&mut inputs, "a"), Ok([3, 0, 0]));
+    assert_eq!(rt;
+        counts_of(&mut inputs, "c"),
+        Ok([0, 0, 0]),
+        "a missing file is empty"
+    );
     Ok(())
 }
 
 #[test]
 fn a_failed_read_takes_nothing(rt: HostRuntime) -> Result<(), Fail> {
-    let mut inputs = two_files(rt.alloc(), &[1])?;
+    let mut inputs = narrow_inputs(rt.alloc(), &[1])?;
     let mut buf = [0u8; 8];
     inputs.start("a")?;
     assert_eq!(rt; inputs.read(&mut buf), Err(Failed));
     assert_eq!(rt; inputs.read(&mut buf), Ok(2));
     assert_eq!(rt; buf[..2], b"12"[..]);
     Ok(())
+}
+
+#[test]
+fn a_count_sink_takes_everything(rt: HostRuntime) {
+    assert_eq!(rt; write_whole(&mut CountSink::new(), b"rows"), Ok(()));
+    assert_eq!(rt; CountSink::new().write(b"rows"), Ok(4));
 }
 
 #[test]
@@ -79,7 +117,7 @@ fn the_real_ones_count_what_the_system_refuses(rt: HostRuntime) -> Result<(), Fa
     );
 
     let mut inputs = RealInputs::new(rt.clone()?);
-    assert_eq!(rt; inputs.start("no such file"), Err(Failed));
+    assert_eq!(rt; counts_of(&mut inputs, "no such file"), Err(Failed));
     assert_eq!(rt; inputs.read(&mut [0u8; 4]), Ok(0), "nothing is started");
     Ok(())
 }

@@ -1,7 +1,7 @@
 use Rattle.std.proofs.Common.{◌≡◌, ℕ, ◌<◌, false, get_or, String, Vec}
 use Rattle.std.specs.declared.alloc.Global.{Global}
 use Rattle.outside.proofs.LawFiles.{named}
-use Rattle.outside.proofs.memory_inputs.place_of.Given as goal
+use Rattle.outside.proofs.reading.place_of.Given as goal
 
 -- no file before has the name
 abbrev pub invariant-loop-place : goal.invariant-loop-place

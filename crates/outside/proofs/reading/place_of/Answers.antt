@@ -1,6 +1,6 @@
 use Rattle.std.proofs.Common.{◌≡◌, true, get_or, List, ℕ, ap, sym, ◌∙◌, arith, bytes_eq}
 use Rattle.outside.proofs.LawFiles.{first_named, none_named, named}
-use Rattle.outside.proofs.memory_inputs.place_of.Goals as goal
+use Rattle.outside.proofs.reading.place_of.Goals as goal
 
 -- the first file of the name
 pub returns-then-eq : goal.returns-then-eq

@@ -1,0 +1,78 @@
+ghost use Rattle.std.specs.Prelude.{◌≡◌, IsOk, IsTrue, Some, []};
+ghost use Rattle.std.specs.Io.{ReadsAtMost};
+ghost use Rattle.std.specs.Io.KnownBytes.{ReadConsumes};
+ghost use Rattle.outside.specs.Faults.{HasCause};
+ghost use Rattle.outside.specs.Files.{Starts, files_of, names_differ};
+
+use crate::reading::{Reading, content_of, place_of, read_on};
+use crate::{Failed, Inputs};
+use std::marker::Model;
+
+/// Inputs in memory that never fail, and tell all. A name that no file has is an empty input.
+#[derive(Drop)]
+pub struct SteadyInputs {
+    files: Vec<(String, Vec<u8>)>,
+    reading: Option<Reading>,
+}
+
+impl Model for SteadyInputs {
+    ghost use Rattle.outside.specs.Files.{files_of};
+    ghost use Rattle.outside.specs.Script.{Shelf, left_of};
+
+    ghost Value = { Shelf };
+
+    ghost view = { λ s. record {
+      files = files_of s.files.items;
+      left = left_of s.files.items s.reading;
+    } };
+}
+
+impl SteadyInputs {
+    /// Files under names that differ.
+    pub fn new(files: Vec<(String, Vec<u8>)>) -> Self
+        requires { IsTrue (names_differ (files_of files.items)) }
+        ensures { result ≡ record { files = files_of files.items; left = [] } }
+    {
+        SteadyInputs {
+            files,
+            reading: None,
+        }
+    }
+}
+
+impl Inputs for SteadyInputs {
+    ghost faults = { λ _. 0 };
+
+    ghost files = { λ s. Some s.files };
+
+    ghost left = { λ s. Some s.left };
+
+    fn start(&mut self, name: &str) -> Result<(), Failed>
+        ensures files { self.new.files ≡ self.old.files }
+        ensures left { Starts (Some self.old.files) (Some self.old.left) (Some self.new.left) name.now result }
+        ensures cause { HasCause 0 0 result }
+        ensures never { IsOk result }
+    {
+        match place_of(&self.files, name) {
+            Some(place) => self.reading = Some(Reading { place, offset: 0 }),
+            None => self.reading = None,
+        }
+        Ok(())
+    }
+
+    fn read(&mut self, buf: &mut [u8]) -> Result<usize, Failed>
+        ensures bound { ReadsAtMost result buf.new }
+        ensures files { self.new.files ≡ self.old.files }
+        ensures left { ReadConsumes (Some self.old.left) (Some self.new.left) result buf.new }
+        ensures cause { HasCause 0 0 result }
+        ensures never { IsOk result }
+    {
+        let Some(mut reading) = self.reading else {
+            return Ok(0);
+        };
+        let content = content_of(&self.files, reading.place);
+        let count = read_on(content, &mut reading.offset, buf, usize::MAX);
+        self.reading = Some(reading);
+        Ok(count)
+    }
+}

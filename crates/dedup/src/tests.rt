@@ -140,36 +140,106 @@ fn refuses_words_that_are_not_the_command(rt: HostRuntime) -> Result<(), Fail> {
 }
 
 #[test]
-fn a_failed_read_is_no_end_of_the_file(rt: HostRuntime) -> Result<(), Fail> {
-    let missing = ["dedup", "--workers", "1", "--list", "ids", "g"];
-    let fails = Fails { inputs: 1, ..NONE };
-    for outcome in [
-        run_on(&rt, rt.alloc(), &WORDS, b"3\n1\n3\n", &fails)?,
-        run_on(&rt, rt.alloc(), &missing, b"3\n1\n3\n", &NONE)?,
-    ] {
-        assert_eq!(rt; outcome.status, 4);
-        assert!(rt; outcome.out.bytes().is_empty());
-        assert_eq!(rt;
-            outcome.faults.bytes(),
-            b"dedup: read fault in file 1\n".as_slice()
-        );
+fn each_failed_read_ends_the_run(rt: HostRuntime) -> Result<(), Fail> {
+    // The start is call 0, and call 7 finds the end of the file. Call 8 is never made.
+    for call in 0..9 {
+        let fails = Fails {
+            inputs: call,
+            ..NONE
+        };
+        let outcome = run_on(&rt, rt.alloc(), &WORDS, b"3\n1\n3\n", &fails)?;
+        let (status, out, line): (u8, &[u8], &[u8]) = match call {
+            8 => (0, b"1\n3\n", b""),
+            _ => (4, b"", b"dedup: read fault in file 1\n"),
+        };
+        assert_eq!(rt; outcome.status, status, "at call {call}");
+        assert_eq!(rt; outcome.out.bytes(), out, "at call {call}");
+        assert_eq!(rt; outcome.faults.bytes(), line, "at call {call}");
     }
     Ok(())
 }
 
 #[test]
-fn a_failed_write_leaves_a_front_of_the_output(rt: HostRuntime) -> Result<(), Fail> {
-    let out = Fails { out: 2, ..NONE };
-    let broken = run_on(&rt, rt.alloc(), &WORDS, b"3\n1\n3\n", &out)?;
-    assert_eq!(rt; broken.status, 5);
-    assert_eq!(rt; broken.out.bytes(), b"1\n".as_slice());
-    assert_eq!(rt; broken.faults.bytes(), b"dedup: write fault\n".as_slice());
+fn a_file_is_read_whole_before_it_is_judged(rt: HostRuntime) -> Result<(), Fail> {
+    for call in 0..7 {
+        let fails = Fails {
+            inputs: call,
+            ..NONE
+        };
+        let outcome = run_on(&rt, rt.alloc(), &WORDS, b"x\n1\n", &fails)?;
+        let (status, line): (u8, &[u8]) = match call {
+            6 => (3, b"dedup: not a plain file\n"),
+            _ => (4, b"dedup: read fault in file 1\n"),
+        };
+        assert_eq!(rt; outcome.status, status, "at call {call}");
+        assert!(rt; outcome.out.bytes().is_empty(), "at call {call}");
+        assert_eq!(rt; outcome.faults.bytes(), line, "at call {call}");
+    }
+    Ok(())
+}
 
-    let both = Fails { faults: 0, ..out };
+#[test]
+fn a_missing_file_is_a_failed_read(rt: HostRuntime) -> Result<(), Fail> {
+    let words = ["dedup", "--workers", "1", "--list", "ids", "g"];
+    let outcome = run_on(&rt, rt.alloc(), &words, b"3\n1\n3\n", &NONE)?;
+    assert_eq!(rt; outcome.status, 4);
+    assert!(rt; outcome.out.bytes().is_empty());
     assert_eq!(rt;
-        run_on(&rt, rt.alloc(), &WORDS, b"3\n1\n3\n", &both)?.status,
-        5,
-        "a fault in the fault line"
+        outcome.faults.bytes(),
+        b"dedup: read fault in file 1\n".as_slice()
+    );
+    Ok(())
+}
+
+#[test]
+fn each_failed_write_leaves_a_front_of_the_output(rt: HostRuntime) -> Result<(), Fail> {
+    let output = b"1\n3\n";
+    for call in 0..5 {
+        let fails = Fails { out: call, ..NONE };
+        let outcome = run_on(&rt, rt.alloc(), &WORDS, b"3\n1\n3\n", &fails)?;
+        let (status, count, line): (u8, usize, &[u8]) = match call {
+            4 => (0, 4, b""),
+            _ => (5, call as usize, b"dedup: write fault\n"),
+        };
+        assert_eq!(rt; outcome.status, status, "at call {call}");
+        assert_eq!(rt; outcome.out.bytes(), &output[..count], "at call {call}");
+        assert_eq!(rt; outcome.faults.bytes(), line, "at call {call}");
+    }
+    Ok(())
+}
+
+#[test]
+fn a_fault_in_the_fault_line_changes_no_status(rt: HostRuntime) -> Result<(), Fail> {
+    let fails = Fails { faults: 0, ..NONE };
+    let read = Fails { inputs: 1, ..fails };
+    let write = Fails { out: 2, ..fails };
+    let cases: [(&[&str], &[u8], Fails, u8); 4] = [
+        (&["dedup"], b"3\n1\n3\n", fails, 2),
+        (&WORDS, b"x\n1\n", fails, 3),
+        (&WORDS, b"3\n1\n3\n", read, 4),
+        (&WORDS, b"3\n1\n3\n", write, 5),
+    ];
+    for (words, file, fails, status) in cases {
+        let outcome = run_on(&rt, rt.alloc(), words, file, &fails)?;
+        assert_eq!(rt; outcome.status, status);
+        assert!(rt; outcome.faults.bytes().is_empty(), "at status {status}");
+    }
+    Ok(())
+}
+
+#[test]
+fn refused_memory_ends_the_run_with_nothing_printed(rt: HostRuntime) -> Result<(), Fail> {
+    // Run with each allocation refused in turn; with none refused it is a plain run.
+    let outcome = run_on(&rt, rt.alloc(), &WORDS, b"3\n1\n3\n", &NONE)?;
+    if outcome.status == 0 {
+        assert_eq!(rt; outcome.out.bytes(), b"1\n3\n".as_slice());
+        return Ok(());
+    }
+    assert_eq!(rt; outcome.status, 1);
+    assert!(rt; outcome.out.bytes().is_empty());
+    assert_eq!(rt;
+        outcome.faults.bytes(),
+        b"dedup: out of memory\n".as_slice()
     );
     Ok(())
 }

@@ -122,3 +122,18 @@ fn each_kind_of_step_does_what_its_row_says(rt: HostRuntime) -> Result<(), Fail>
     assert_eq!(rt; words.word(6), 20, "a won swap");
     Ok(())
 }
+
+#[test]
+fn refused_memory_is_answered_and_changes_no_word(rt: HostRuntime) -> Result<(), Fail> {
+    // Run with each allocation refused in turn; with none refused both calls succeed.
+    let Ok(mut words) = open_for_one(rt.alloc()) else {
+        return Ok(());
+    };
+    put_only_key(&mut words, 7);
+    if let Ok(keys) = live_keys(rt.alloc(), &words) {
+        assert_eq!(rt; keys.as_slice(), [7].as_slice());
+    }
+    assert_eq!(rt; words.word(6), 20);
+    assert_eq!(rt; words.word(13), 7);
+    Ok(())
+}

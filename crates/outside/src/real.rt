@@ -1,4 +1,7 @@
-ghost use Rattle.std.specs.Prelude.{◌≡◌, None};
+ghost use Rattle.std.specs.Prelude.{◌≡◌, IfSome, IsSome, None, Ok, OnErr, OnOk};
+ghost use Rattle.std.specs.Io.{ReadsAtMost};
+ghost use Rattle.std.specs.Io.KnownBytes.{ReadConsumes};
+ghost use Rattle.outside.specs.Faults.{HasCause};
 
 use crate::{Failed, Inputs, Sink};
 use std::fs;
@@ -33,7 +36,11 @@ impl<R: Files + Drop> Inputs for RealInputs<R> {
 
     ghost left = { λ _. None };
 
-    fn start(&mut self, name: &str) -> Result<(), Failed> {
+    fn start(&mut self, name: &str) -> Result<(), Failed>
+        ensures cause { HasCause self.old.faults self.new.faults result }
+        ensures opened { OnOk result (IsSome self.new.open) }
+        ensures nothing { OnErr result (self.new.open ≡ None) }
+    {
         self.open = None;
         match fs::open(&self.rt, name) {
             Ok(file) => {
@@ -47,7 +54,13 @@ impl<R: Files + Drop> Inputs for RealInputs<R> {
         }
     }
 
-    fn read(&mut self, buf: &mut [u8]) -> Result<usize, Failed> {
+    fn read(&mut self, buf: &mut [u8]) -> Result<usize, Failed>
+        ensures bound { ReadsAtMost result buf.new }
+        ensures cause { HasCause self.old.faults self.new.faults result }
+        ensures closed { self.old.open ≡ None → result ≡ Ok 0 }
+        ensures bytes { IfSome self.old.open (λ before. IfSome self.new.open (λ after.
+            ReadConsumes (⟦<R::File as Read>⟧.remaining before) (⟦<R::File as Read>⟧.remaining after) result buf.new)) }
+    {
         let Some(file) = &mut self.open else {
             return Ok(0);
         };

@@ -60,11 +60,13 @@ keys_set-IsPermutation xs ys moved = same _ _ (λ q.
 pub present : (keys : List ℕ) (key : ℕ) (r : Result ℕ ℕ) → IsStrictlyIncreasing keys → IsBinarySearchResult (λ y. nat_cmp y key) keys r
     → (is_ok r ≡ set.contains (keys_set keys) key) × IfErr r (IsPlaceFor key keys)
 present keys key (Ok place) rising found =
-    let at = searched keys key (Ok place) found (λ i j. non_decreasing_from_sorted keys (sorted_from_strictly_increasing keys rising) i j 0) in
+    let up = sorted_from_strictly_increasing keys rising in
+    let at = searched keys key (Ok place) found (λ i j. non_decreasing_from_sorted keys up i j 0) in
     let equal : nat_eq (get_or keys place 0) key ≡ true = grind (arith, nat_tests) in
     (sym (set.contains-from_list_nat keys key ∙ list_any_at (λ y. nat_eq y key) keys place 0 at.0 equal), tt)
 present keys key (Err place) rising found =
-    let at = searched keys key (Err place) found (λ i j. non_decreasing_from_sorted keys (sorted_from_strictly_increasing keys rising) i j 0) in (
+    let up = sorted_from_strictly_increasing keys rising in
+    let at = searched keys key (Err place) found (λ i j. non_decreasing_from_sorted keys up i j 0) in (
       sym (set.contains-from_list_nat keys key ∙ list_any_none (λ y. nat_eq y key) keys (λ k d within.
           grind (arith, nat_tests, get_or_default_zero keys k d within, at.1 k, at.2 k))),
       record { within = at.0; before = at.1; behind = at.2 },
@@ -78,12 +80,15 @@ gone_without keys place rising within =
     set.contains-from_list_nat (remove keys place) _ ∙ list_any_none (λ y. nat_eq y (get_or keys place 0)) (remove keys place) (λ k d here.
     let len = length-remove keys place within in
     let at = get_or_default_zero keys place d within in
-    grind (arith, nat_tests, get_or-remove_below keys place d k, get_or-remove_above keys place d k, below_from_sorted keys k place d up, below_from_sorted keys place (k + 1) d up))
+    let lower = below_from_sorted keys k place d up in
+    let upper = below_from_sorted keys place (k + 1) d up in
+    grind (arith, nat_tests, get_or-remove_below keys place d k, get_or-remove_above keys place d k, lower, upper))
 
 -- a rising list without the key at one place has the set without this key
 pub keys_set-remove : (keys : List ℕ) (place : ℕ) → IsStrictlyIncreasing keys → place < length keys
     → keys_set (remove keys place) ≡ set.remove (keys_set keys) (get_or keys place 0)
 keys_set-remove keys place rising within =
     let key = get_or keys place 0 in
-    let whole = keys_set-IsPermutation keys (key ∷ remove keys place) (IsPermutation-remove keys place key within (sym (get_or_default_zero keys place key within))) in
+    let moved = IsPermutation-remove keys place key within (sym (get_or_default_zero keys place key within)) in
+    let whole = keys_set-IsPermutation keys (key ∷ remove keys place) moved in
     sym (ap (λ s. set.remove s key) whole ∙ remove-insert _ key (gone_without keys place rising within))

@@ -1,9 +1,9 @@
-ghost use Rattle.std.specs.Prelude.{◌≡◌, false, IfOk, OnOk, OnErr};
+ghost use Rattle.std.specs.Prelude.{◌≡◌, ℕ, false, List, IfOk, OnOk, OnErr};
 ghost use Rattle.std.specs.List.Sorted.{IsStrictlyIncreasing};
 ghost use Rattle.std.specs.Ordering.{nat_cmp};
 ghost use Rattle.std.specs.Coded.{coded_ℕ};
 ghost use Rattle.std.specs.FinSet as set;
-ghost use Rattle.set_model.specs.Keys.{keys_set};
+ghost use Rattle.set_model.specs.Keys.{keys_set, is_in, IsTestOf};
 ghost use Rattle.set_model.specs.Call.{answer_of, set_after_call};
 
 use crate::{Call, NoMemory, sorted};
@@ -36,6 +36,15 @@ impl PlainSet {
         }
     }
 
+    /// The set of these keys, which rise strictly. Takes no memory; the vector is kept.
+    pub fn from_sorted(keys: Vec<u64>) -> Self
+        requires rising { IsStrictlyIncreasing keys.items }
+        ensures set { result ≡ keys_set keys.items }
+        ensures test { IsTestOf (is_in keys.items) result }
+    {
+        PlainSet { keys }
+    }
+
     /// Makes one call at the key and gives its answer. `NoMemory` comes only for an insert of an absent
     /// key, and the set is then as it was.
     pub fn apply(&mut self, call: Call, key: u64) -> Result<bool, NoMemory>
@@ -59,8 +68,15 @@ impl PlainSet {
                 }
                 Err(_) => Ok(false),
             },
-            Call::Contains => Ok(sorted::find(&self.keys, key).is_ok()),
+            Call::Contains => Ok(self.holds(key)),
         }
+    }
+
+    /// Whether the key is in the set. Takes no memory.
+    pub fn holds(&self, key: u64) -> bool
+        ensures { result ≡ set.contains self.now key }
+    {
+        sorted::find(&self.keys, key).is_ok()
     }
 
     /// The keys of the set, each once, rising. Takes no memory.
@@ -69,5 +85,17 @@ impl PlainSet {
         ensures rising { IsStrictlyIncreasing result.now }
     {
         &self.keys
+    }
+
+    /// The keys of the set, each once, rising, in the vector that the set kept. Takes no memory.
+    pub fn into_keys(self) -> Vec<u64>
+        ensures set { keys_set result.items ≡ self }
+        ensures rising { IsStrictlyIncreasing result.items }
+        // There is one such list, so the items are those that the set was made of.
+        ensures only { (keys : List ℕ) → IsStrictlyIncreasing keys → keys_set keys ≡ self
+            → result.items ≡ keys }
+    {
+        let PlainSet { keys } = self;
+        keys
     }
 }

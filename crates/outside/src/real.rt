@@ -12,7 +12,7 @@ use std::rt::Files;
 #[derive(Drop)]
 pub struct RealInputs<R: Files + Drop> {
     rt: R,
-    open: Option<R::File>,
+    started: Option<R::File>,
     faults: u64,
 }
 
@@ -23,7 +23,7 @@ impl<R: Files + Drop> RealInputs<R> {
     {
         RealInputs {
             rt,
-            open: None,
+            started: None,
             faults: 0,
         }
     }
@@ -38,13 +38,13 @@ impl<R: Files + Drop> Inputs for RealInputs<R> {
 
     fn start(&mut self, name: &str) -> Result<(), Failed>
         ensures cause { HasCause self.old.faults self.new.faults result }
-        ensures opened { OnOk result (IsSome self.new.open) }
-        ensures nothing { OnErr result (self.new.open ≡ None) }
+        ensures opened { OnOk result (IsSome self.new.started) }
+        ensures nothing { OnErr result (self.new.started ≡ None) }
     {
-        self.open = None;
+        self.started = None;
         match fs::open(&self.rt, name) {
             Ok(file) => {
-                self.open = Some(file);
+                self.started = Some(file);
                 Ok(())
             }
             Err(_) => {
@@ -57,11 +57,11 @@ impl<R: Files + Drop> Inputs for RealInputs<R> {
     fn read(&mut self, buf: &mut [u8]) -> Result<usize, Failed>
         ensures bound { ReadsAtMost result buf.new }
         ensures cause { HasCause self.old.faults self.new.faults result }
-        ensures closed { self.old.open ≡ None → result ≡ Ok 0 }
-        ensures bytes { IfSome self.old.open (λ before. IfSome self.new.open (λ after.
+        ensures closed { self.old.started ≡ None → result ≡ Ok 0 }
+        ensures bytes { IfSome self.old.started (λ before. IfSome self.new.started (λ after.
             ReadConsumes (⟦<R::File as Read>⟧.remaining before) (⟦<R::File as Read>⟧.remaining after) result buf.new)) }
     {
-        let Some(file) = &mut self.open else {
+        let Some(file) = &mut self.started else {
             return Ok(0);
         };
         match file.read(buf) {

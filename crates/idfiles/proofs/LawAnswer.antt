@@ -1,0 +1,97 @@
+-- The answer for a file, from what reading its bytes gives.
+use Rattle.std.proofs.Common.{◌≡◌, ℕ, List, [], ◌++◌, take, refl, sym, ap, ◌∙◌, subst, append-nil, Option, None, Some, IfSome, Ok, Err, Vec}
+use Rattle.std.specs.Io.KnownBytes.{Consumes, IsAtEnd}
+use Rattle.std.proofs.KnownBytes.{Consumes-trans}
+use Rattle.std.specs.declared.alloc.Global.{Global}
+use Rattle.idfiles.specs.Answer.{Answers, AnswersTold}
+use Rattle.idfiles.specs.Lines.{first_fault}
+use Rattle.idfiles.specs.Scan.{Read, Fails, ended, scanned_within}
+use Rattle.idfiles.specs.declared.fault.TheConstants.{MAX_BYTES}
+use Rattle.idfiles.specs.declared.scan.Scan.{Scan}
+use Rattle.idfiles.specs.declared.id_record.IdRecord.{IdRecord}
+use Rattle.idfiles.specs.declared.fault.IdFault.{IdFault}
+use Rattle.idfiles.specs.declared.fault.IdFault.TheVariants.{NoMemory, BadLine, ReadFault, TooLong, TooMany}
+use Rattle.idfiles.proofs.LoopRead.{HasRead, EndsAs, ends, refuses_piece}
+
+-- the bytes that are told, or none
+some_bytes : (told : Option (List ℕ)) → (bytes : List ℕ) × IfSome told (λ all. bytes ≡ all)
+some_bytes None = ([], tt)
+some_bytes (Some xs) = (xs, refl)
+
+-- what was taken is a front of what is told
+front_of : (told left : Option (List ℕ)) (bytes : List ℕ) → Consumes told left bytes
+    → (rest : List ℕ) × IfSome told (λ all. bytes ++ rest ≡ all)
+front_of None left bytes h = ([], tt)
+front_of (Some xs) None bytes h = absurd h
+front_of (Some xs) (Some ys) bytes h = (ys, sym h)
+
+-- what was taken is all that is told, where nothing is left
+all_of : (told left : Option (List ℕ)) (bytes : List ℕ) → Consumes told left bytes → IsAtEnd left → IfSome told (λ all. bytes ≡ all)
+all_of None left bytes h end = tt
+all_of (Some xs) None bytes h end = absurd h
+all_of (Some xs) (Some ys) bytes h end = sym (h ∙ ap (λ r. bytes ++ r) end ∙ append-nil bytes)
+
+-- a read that gave no byte took none
+pub nothing_more : (told mid rest : Option (List ℕ)) (bytes buffer : List ℕ) (count : ℕ) → count ≡ 0 → Consumes told mid bytes
+    → Consumes mid rest (take count buffer) → Consumes told rest bytes
+nothing_more told mid rest bytes buffer count none first then_on =
+    let no : Consumes mid rest [] = rw none at then_on in
+    subst (Consumes told rest) (append-nil bytes) (Consumes-trans told mid rest bytes [] first no)
+
+-- a refusal that says nothing of the bytes
+pub no_memory : (file room : ℕ) (told : Option (List ℕ)) → AnswersTold file room told (Err NoMemory)
+no_memory file room told = let bytes = some_bytes told in (bytes.0, bytes.1, tt)
+
+pub read_fault : (file room : ℕ) (told : Option (List ℕ)) → AnswersTold file room told (Err (ReadFault file))
+read_fault file room told = let bytes = some_bytes told in (bytes.0, bytes.1, refl)
+
+-- a fault that reading met is the file's first one
+refused : (file room : ℕ) (bytes : List ℕ) (read : Read) (fault : IdFault) → Fails fault read
+    → ((found : IdFault) → read ≡ Err found → first_fault file room bytes ≡ Some found) → Answers file room bytes (Err fault)
+refused file room bytes read NoMemory e first = tt
+refused file room bytes read (BadLine at line) e first = first (BadLine at line) e
+refused file room bytes read (ReadFault at) e first = absurd e
+refused file room bytes read (TooLong at) e first = first (TooLong at) e
+refused file room bytes read TooMany e first = first TooMany e
+
+-- the input ended, and so did its last line
+pub answers_all : (file room left : ℕ) (bytes : List ℕ) (told rest : Option (List ℕ)) (scan now : Scan) (records : List IdRecord)
+    (all : Vec IdRecord Global)
+    → HasRead MAX_BYTES file room bytes left scan records → Consumes told rest bytes → IsAtEnd rest
+    → ended scan records ≡ Ok (now, all.items)
+    → AnswersTold file room told (Ok all)
+unfolding first_fault
+answers_all file room left bytes told rest scan now records all h taken end e = (
+  bytes,
+  all_of told rest bytes taken end,
+  subst (EndsAs MAX_BYTES file room bytes) e
+      (ends MAX_BYTES file room left bytes scan records h),
+)
+
+-- the input ended in a fault of its last line
+pub answers_last : (file room left : ℕ) (bytes : List ℕ) (told rest : Option (List ℕ)) (scan : Scan) (records : List IdRecord)
+    (fault : IdFault)
+    → HasRead MAX_BYTES file room bytes left scan records → Consumes told rest bytes → IsAtEnd rest → Fails fault (ended scan records)
+    → AnswersTold file room told (Err fault)
+unfolding first_fault
+answers_last file room left bytes told rest scan records fault h taken end e = (
+  bytes,
+  all_of told rest bytes taken end,
+  refused file room bytes (ended scan records) fault e (λ found is. subst (EndsAs MAX_BYTES file room bytes) is
+      (ends MAX_BYTES file room left bytes scan records h)),
+)
+
+-- a piece had a fault
+pub answers_piece : (file room left : ℕ) (bytes piece : List ℕ) (told rest : Option (List ℕ)) (scan : Scan) (records : List IdRecord)
+    (fault : IdFault)
+    → HasRead MAX_BYTES file room bytes left scan records → Consumes told rest (bytes ++ piece)
+    → Fails fault (scanned_within left scan records piece)
+    → AnswersTold file room told (Err fault)
+unfolding first_fault
+answers_piece file room left bytes piece told rest scan records fault h taken e =
+    let front = front_of told rest (bytes ++ piece) taken in (
+      (bytes ++ piece) ++ front.0,
+      front.1,
+      refused file room ((bytes ++ piece) ++ front.0) (scanned_within left scan records piece) fault e
+          (λ found is. refuses_piece MAX_BYTES file room left bytes piece front.0 scan records found h is),
+    )

@@ -1,0 +1,12 @@
+pub mod LawAnswer
+pub mod LawDigits
+pub mod LawFile
+pub mod LawGrammar
+pub mod LawIds
+pub mod LawLine
+pub mod LawLines
+pub mod LawPieces
+pub mod LawRun
+pub mod LawScan
+pub mod LoopFeed
+pub mod LoopRead

@@ -1,0 +1,14 @@
+use Rattle.std.proofs.Common.{◌≡◌, ◌+◌, ◌-◌, ◌≤◌, length, drop}
+use Rattle.idfiles.specs.Scan.{scanned}
+use Rattle.idfiles.proofs.scan.Scan.feed.Given as goal
+
+-- what is left, read from here, gives what all gives, read from the start
+abbrev pub invariant-loop-at : goal.invariant-loop-at
+invariant-loop-at l = record {
+  within : l.at ≤ length l.bytes;
+  line : l.scan.line ≤ l.fn.self.line + l.at;
+  rest : scanned l.scan l.records.items (drop l.at l.bytes) ≡ scanned l.fn.self l.fn.records.items l.bytes;
+}
+
+abbrev pub decreases-loop-at : goal.decreases-loop-at
+decreases-loop-at l = length l.bytes - l.at

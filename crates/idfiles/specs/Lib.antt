@@ -1,0 +1,6 @@
+pub mod Answer
+pub mod Fault
+pub mod Grammar
+pub mod Lines
+pub mod Machine
+pub mod Scan

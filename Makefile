@@ -1,4 +1,4 @@
-# make run ARGS="--workers 1 --list ids FILE"   builds the program where it is missing or old, and runs it from here
+# make run ARGS="--list ids FILE..."             builds the program where it is missing or old, and runs it from here
 # make check                                    proves and tests everything
 
 PROGRAM = crates/dedup_main/out/dedup_main

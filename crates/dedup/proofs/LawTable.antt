@@ -1,5 +1,5 @@
 -- Words with one bucket after one id more, and after as many as a run has.
-use Rattle.std.proofs.Common.{◌≡◌, ℕ, ◌+◌, ◌<◌, ◌≤◌, List, [], length, slice_index, refl, sym, ap, subst, ◌∙◌, arith}
+use Rattle.std.proofs.Common.{◌≡◌, ℕ, ◌+◌, ◌<◌, ◌≤◌, Bool, true, false, not, List, [], length, slice_index, refl, sym, ap, subst, ◌∙◌, arith}
 use Rattle.std.specs.Ordering.{nat_cmp}
 use Rattle.std.specs.Cmp.{nat_cmp_total}
 use Rattle.std.specs.FinSet as set
@@ -15,11 +15,12 @@ use Rattle.step_core.specs.Fits.{IsWellFormed}
 use Rattle.step_core.specs.Format.{next_of}
 use Rattle.step_core.specs.Openings.{opening_len, opening_of}
 use Rattle.step_core.specs.Single.{HasOneBucket, only_row}
-use Rattle.step_core.proofs.LawKeys.{contains-here, keys_set-insert, IsStrictlyIncreasing-insert}
+use Rattle.step_core.proofs.LawKeys.{contains-absent, contains-here, keys_set-insert, IsStrictlyIncreasing-insert}
 use Rattle.step_core.proofs.LawOpening.{length-opening_of}
 use Rattle.step_core.proofs.LawSingle.{one_row}
 use Rattle.dedup.specs.Table.{HasRoom, HasTaken, HoldsFew, size_of}
-use Rattle.dedup.specs.declared.table.TheConstants.{END, RECORDS}
+use Rattle.dedup.specs.declared.load.TheConstants.{RECORDS}
+use Rattle.dedup.specs.declared.table.TheConstants.{END}
 
 -- the members are one set
 same_members : (words : List ℕ) (s t : set.FinSet nat_cmp) → HasMembers words s → HasMembers words t → s ≡ t
@@ -27,7 +28,7 @@ same_members words s t one other = set.same_set nat_cmp_total set.nat_cmp-IsAnti
 
 -- the id is there already
 pub HasTaken-present : (words : List ℕ) (place id : ℕ) → HasRoom words → place < length (row_keys words (only_row words))
-    → slice_index (row_keys words (only_row words)) place ≡ id → HasTaken words words id
+    → slice_index (row_keys words (only_row words)) place ≡ id → HasTaken words words id false
 HasTaken-present words place id room within here =
     let one = one_row words room.well_formed room.single in
     record {
@@ -37,6 +38,9 @@ HasTaken-present words place id room within here =
           let same = same_members words keys (keys_set (row_keys words (only_row words))) have one.members in
           let there = ap (λ s. set.contains s id) same ∙ contains-here (row_keys words (only_row words)) place id within here in
           subst (HasMembers words) (sym (insert-present keys id there)) have;
+      answered = λ keys have.
+          let same = same_members words keys (keys_set (row_keys words (only_row words))) have one.members in
+          ap not (sym (ap (λ s. set.contains s id) same ∙ contains-here (row_keys words (only_row words)) place id within here));
       size = omega arith;
       next = omega arith;
       long = refl;
@@ -44,7 +48,7 @@ HasTaken-present words place id room within here =
 
 -- the row with the id at its place took the place of the old one
 pub HasTaken-absent : (words later : List ℕ) (place id : ℕ) → HasRoom words → IsPlaceFor id (row_keys words (only_row words)) place
-    → HasReplaced words later (insert (row_keys words (only_row words)) place id) → HasTaken words later id
+    → HasReplaced words later (insert (row_keys words (only_row words)) place id) → HasTaken words later id true
 HasTaken-absent words later place id room free replaced =
     let one = one_row words room.well_formed room.single in
     let old = row_keys words (only_row words) in
@@ -56,6 +60,9 @@ HasTaken-absent words later place id room free replaced =
           let same = same_members words keys (keys_set old) have one.members in
           let after = ap (set_after_call Insert id) same ∙ sym (keys_set-insert old place id) in
           subst (HasMembers later) (sym after) replaced.members;
+      answered = λ keys have.
+          let same = same_members words keys (keys_set old) have one.members in
+          ap not (sym (ap (λ s. set.contains s id) same ∙ contains-absent old place id free));
       size = omega (arith, ap length replaced.row, longer);
       next = omega (arith, replaced.next, longer);
       long = replaced.long;
@@ -103,9 +110,9 @@ HasRoom-few words keys records few more = record {
 }
 
 -- one more id was taken
-pub HoldsFew-more : (words later : List ℕ) (keys : set.FinSet nat_cmp) (records id : ℕ) → HoldsFew words END keys records → records < RECORDS → HasTaken words later id
+pub HoldsFew-more : (words later : List ℕ) (keys : set.FinSet nat_cmp) (records id : ℕ) (answer : Bool) → HoldsFew words END keys records → records < RECORDS → HasTaken words later id answer
     → HoldsFew later END (set.insert keys id) (records + 1)
-HoldsFew-more words later keys records id few more taken = record {
+HoldsFew-more words later keys records id answer few more taken = record {
   well_formed = taken.well_formed;
   single = taken.single;
   members = taken.members keys few.members;

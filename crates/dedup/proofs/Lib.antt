@@ -1,6 +1,7 @@
-mod LawFront
-mod LawId
-mod LawJudges
+mod LawEnds
+mod LawFirsts
+mod LawInputs
+mod LawKinds
+mod LawOne
 mod LawRow
 mod LawTable
-mod LoopLines

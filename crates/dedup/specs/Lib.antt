@@ -1,5 +1,7 @@
 pub mod Fault
-pub mod Plain
+pub mod Inputs
+pub mod Output
+pub mod Records
 pub mod Run
 pub mod Table
 pub mod Words

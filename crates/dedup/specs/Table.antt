@@ -1,9 +1,9 @@
 -- The words that a run keeps its ids in: one bucket, whose row has them all.
-use Rattle.std.specs.Prelude.{◌≡◌, ℕ, ◌+◌, ◌*◌, ◌<◌, ◌≤◌, ◌^◌, List, length, slice_index}
+use Rattle.std.specs.Prelude.{◌≡◌, ℕ, Bool, ◌+◌, ◌*◌, ◌<◌, ◌≤◌, ◌^◌, List, length, slice_index}
 use Rattle.std.specs.List.Sorted.{IsStrictlyIncreasing}
 use Rattle.std.specs.Ordering.{nat_cmp}
 use Rattle.std.specs.FinSet.{FinSet}
-use Rattle.set_model.specs.Call.{set_after_call}
+use Rattle.set_model.specs.Call.{answer_of, set_after_call}
 use Rattle.set_model.specs.declared.call.Call.TheVariants.{Insert}
 use Rattle.step_core.specs.Content.{HasMembers, row_keys}
 use Rattle.step_core.specs.Fits.{IsWellFormed}
@@ -11,7 +11,7 @@ use Rattle.step_core.specs.Format.{next_of}
 use Rattle.step_core.specs.Openings.{opening_len}
 use Rattle.step_core.specs.Single.{HasOneBucket, only_row}
 use Rattle.step_core.specs.declared.format.TheConstants.{FIRST_KEY}
-use Rattle.dedup.specs.declared.table.TheConstants.{RECORDS}
+use Rattle.dedup.specs.declared.load.TheConstants.{RECORDS}
 
 -- at the address stands a row of rising keys
 pub record IsRow (words : List ℕ) (row : ℕ) : Type 0 where
@@ -31,11 +31,12 @@ pub record HasRoom (words : List ℕ) : Type 0 where
   pub room : next_of words + FIRST_KEY + size_of words + 1 ≤ length words
   pub fits : length words < 2 ^ 63
 
--- the id was made a member, and at most one row with one more key was drawn
-pub record HasTaken (old new : List ℕ) (id : ℕ) : Type 0 where
+-- the id was made a member, with the answer of a plain set, and at most one row with one more key was drawn
+pub record HasTaken (old new : List ℕ) (id : ℕ) (answer : Bool) : Type 0 where
   pub well_formed : IsWellFormed new
   pub single : HasOneBucket new
   pub members : (keys : FinSet nat_cmp) → HasMembers old keys → HasMembers new (set_after_call Insert id keys)
+  pub answered : (keys : FinSet nat_cmp) → HasMembers old keys → answer ≡ answer_of Insert id keys
   pub size : size_of new ≤ size_of old + 1
   pub next : next_of new ≤ next_of old + FIRST_KEY + size_of old + 1
   pub long : length new ≡ length old

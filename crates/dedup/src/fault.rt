@@ -1,6 +1,10 @@
-ghost use Rattle.std.specs.Prelude.{◌≡◌};
+ghost use Rattle.std.specs.Prelude.{◌≡◌, ◌+◌, ◌≤◌, ◌++◌, decimal};
+ghost use Rattle.arrayvec.specs.ArrayString.{array_string_len};
 ghost use Rattle.dedup.specs.Fault.{status_of_fault, line_of};
 
+use arrayvec::ArrayString;
+use idfiles::IdFault;
+use itoa::Buffer;
 use set_model::NoMemory;
 use std::alloc::{AllocError, AllocFailed};
 
@@ -11,12 +15,37 @@ pub(crate) enum Fault {
     NoMemory,
     /// The words are not the command.
     BadWords,
-    /// The file is not plain.
-    NotPlain,
-    /// The file could not be read.
-    Read,
+    /// A line of a file is neither blank nor an id.
+    BadLine {
+        /// The number of the file, from 1.
+        file: u32,
+        /// The number of the line in the file, from 1. Empty lines count.
+        line: u64,
+    },
+    /// A file could not be read.
+    Read {
+        /// The number of the file, from 1.
+        file: u32,
+    },
+    /// A file has more than 2^30 bytes.
+    TooLong {
+        /// The number of the file, from 1.
+        file: u32,
+    },
+    /// The files give more records than there is room for.
+    TooMany,
     /// The output could not be written.
     Write,
+}
+
+// Writes the digits of the number behind the line.
+fn push_number(line: &mut ArrayString<64>, number: u64)
+    requires { array_string_len line.old + 20 ≤ 64 }
+    ensures text { line.new.bytes ≡ line.old.bytes ++ decimal number }
+    ensures len { array_string_len line.new ≤ array_string_len line.old + 20 }
+{
+    let mut buffer = Buffer::new();
+    line.push_str(buffer.format(number));
 }
 
 impl Fault {
@@ -27,22 +56,57 @@ impl Fault {
         match self {
             Fault::NoMemory => 1,
             Fault::BadWords => 2,
-            Fault::NotPlain => 3,
-            Fault::Read => 4,
+            Fault::BadLine { .. } => 3,
+            Fault::Read { .. } => 4,
             Fault::Write => 5,
+            Fault::TooLong { .. } | Fault::TooMany => 6,
         }
     }
 
     /// The line that tells it, with its LF.
-    pub(crate) fn line(self) -> &'static str
-        ensures { result.now ≡ line_of (status_of_fault self) }
+    pub(crate) fn line(self) -> ArrayString<64>
+        ensures { result.bytes ≡ line_of self }
     {
+        let mut text = ArrayString::new();
         match self {
-            Fault::NoMemory => "dedup: out of memory\n",
-            Fault::BadWords => "dedup: bad words\n",
-            Fault::NotPlain => "dedup: not a plain file\n",
-            Fault::Read => "dedup: read fault in file 1\n",
-            Fault::Write => "dedup: write fault\n",
+            Fault::NoMemory => text.push_str("dedup: out of memory\n"),
+            Fault::BadWords => text.push_str("dedup: bad words\n"),
+            Fault::BadLine { file, line } => {
+                text.push_str("dedup: bad line ");
+                push_number(&mut text, u64::from(file));
+                text.push_str(":");
+                push_number(&mut text, line);
+                text.push_str("\n");
+            }
+            Fault::Read { file } => {
+                text.push_str("dedup: read fault in file ");
+                push_number(&mut text, u64::from(file));
+                text.push_str("\n");
+            }
+            Fault::TooLong { file } => {
+                text.push_str("dedup: file ");
+                push_number(&mut text, u64::from(file));
+                text.push_str(" too long\n");
+            }
+            Fault::TooMany => text.push_str("dedup: too many records\n"),
+            Fault::Write => text.push_str("dedup: write fault\n"),
+        }
+        text
+    }
+}
+
+impl From<IdFault> for Fault {
+    ghost use Rattle.dedup.specs.Fault.{fault_of_ids};
+
+    ghost from_gives = { λ ids fault. fault ≡ fault_of_ids ids };
+
+    fn from(fault: IdFault) -> Self {
+        match fault {
+            IdFault::NoMemory => Fault::NoMemory,
+            IdFault::BadLine { file, line } => Fault::BadLine { file, line },
+            IdFault::ReadFault { file } => Fault::Read { file },
+            IdFault::TooLong { file } => Fault::TooLong { file },
+            IdFault::TooMany => Fault::TooMany,
         }
     }
 }

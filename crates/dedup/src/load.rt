@@ -1,41 +1,32 @@
-// The front of a file that is judged.
-ghost use Rattle.std.specs.Prelude.{◌≡◌, IfOk, OnErr, IsErrOf, ◌⊎◌};
-ghost use Rattle.outside.specs.Faults.{HasCause, Rose};
-ghost use Rattle.dedup.specs.Plain.{Fills, IsFront};
+// The records of a run's files.
+ghost use Rattle.std.specs.Prelude.{◌≡◌, ◌≤◌, IfOk, length, map, vec_len};
+ghost use Rattle.idfiles.specs.Answer.{HasReadCause};
+ghost use Rattle.dedup.specs.Inputs.{AnswersFiles};
 
-use crate::fault::Fault;
-use crate::plain::LIMIT;
+use idfiles::{IdFault, IdRecord, read_ids};
 use outside::Inputs;
 use std::alloc::Global;
 
-/// The file's bytes, or its first `LIMIT + 1` where it has more than `LIMIT`.
-pub(crate) fn load<I: Inputs>(alloc: Global, inputs: &mut I, name: &str) -> Result<Vec<u8>, Fault>
-    ensures front { IfOk result (λ front. IsFront (I.files inputs.old) name.now front.items) }
-    ensures fault { OnErr result ((result ≡ Err Fault.NoMemory) ⊎ (result ≡ Err Fault.Read)) }
-    ensures read { IsErrOf result Fault.Read → Rose (I.faults inputs.old) (I.faults inputs.new) }
-{
-    let mut front = vec![in alloc; 0; LIMIT + 1]?;
-    let Ok(()) = inputs.start(name) else {
-        return Err(Fault::Read);
-    };
-    let len = read_front(inputs, &mut front)?;
-    front.truncate(len);
-    Ok(front)
-}
+/// The most records of a run.
+pub(crate) const RECORDS: usize = 2048;
 
-// Fills the buffer from what is left of the started file, as far as there is something.
-fn read_front<I: Inputs>(inputs: &mut I, buf: &mut [u8]) -> Result<usize, Fault>
-    ensures filled { IfOk result (λ len. Fills (I.left inputs.old) (I.left inputs.new) buf.new len) }
-    ensures fault { OnErr result (result ≡ Err Fault.Read) }
-    ensures cause { HasCause (I.faults inputs.old) (I.faults inputs.new) result }
+/// The records of the files, in order of file and line, or the first fault in the order of their bytes.
+/// The files are numbered from 1.
+pub(crate) fn load<I: Inputs>(
+    alloc: Global,
+    inputs: &mut I,
+    names: &[&str],
+) -> Result<Vec<IdRecord>, IdFault>
+    requires { length names.now ≤ 64 }
+    ensures answer { AnswersFiles (I.files inputs.old) (map (λ name. name.now) names.now) result }
+    ensures few { IfOk result (λ records. vec_len records ≤ RECORDS) }
+    ensures cause { HasReadCause (I.faults inputs.old) (I.faults inputs.new) result }
 {
-    let mut len = 0;
-    while len < buf.len() {
-        match inputs.read(&mut buf[len..]) {
-            Ok(0) => return Ok(len),
-            Ok(count) => len += count,
-            Err(_) => return Err(Fault::Read),
-        }
+    let mut records = Vec::new(alloc);
+    for (place, name) in names.iter().enumerate() {
+        let room = (RECORDS - records.len()) as u64;
+        let more = read_ids(alloc, inputs, name, place as u32 + 1, room)?;
+        records.extend_from_slice(&more)?;
     }
-    Ok(len)
+    Ok(records)
 }

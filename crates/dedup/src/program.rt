@@ -1,15 +1,16 @@
-ghost use Rattle.std.specs.Prelude.{◌≡◌, ◌↔◌, IfOk, IfSome, IsErrOf, OnErr, None, ◌⊎◌, List, ℕ};
-ghost use Rattle.dedup.specs.Fault.{line_of, status_of, status_of_fault};
-ghost use Rattle.dedup.specs.Plain.{IsOutput, IsPlain};
-ghost use Rattle.dedup.specs.Run.{HasCauses, IsSilent, Judges, Said};
-ghost use Rattle.dedup.specs.Words.{content_named, file_named, texts};
+ghost use Rattle.std.specs.Prelude.{◌≡◌, ◌≤◌, length, map, Err, Result};
+ghost use Rattle.outside.specs.Faults.{Rose};
+ghost use Rattle.dedup.specs.Fault.{line_of, line_of_ending, status_of, status_of_fault};
+ghost use Rattle.dedup.specs.Run.{Ends, HasCauses, HasRead, IsSilent, ListsFiles, Said};
+ghost use Rattle.dedup.specs.Words.{texts};
+ghost use Rattle.dedup.specs.declared.fault.Fault.{Fault};
 
+use crate::command::Command;
 use crate::fault::Fault;
 use crate::load::load;
-use crate::output::id_lines;
-use crate::plain::ids_of;
-use crate::table::distinct;
-use crate::words::file_named;
+use crate::output::text_of;
+use crate::table::firsts;
+use crate::words::read_words;
 use outside::{Gate, Inputs, Sink, write_whole};
 use std::alloc::Global;
 use std::thread::Threads;
@@ -17,13 +18,15 @@ use std::thread::Threads;
 /// How a run ended.
 #[derive(Clone, Copy, Debug, PartialEq, Eq)]
 pub struct Ended {
-    /// 0 where the output was written; 1 out of memory; 2 the words are not the command; 3 the file is not
-    /// plain; 4 it could not be read; 5 the output could not be written.
+    /// 0 where the list was written; 1 out of memory; 2 the words are not the command; 3 a line of a file is
+    /// bad; 4 a file could not be read; 5 the output could not be written; 6 a file is too long, or the
+    /// records are too many.
     pub status: u8,
 }
 
-/// Prints the distinct ids of the file that the words name, rising, one a line. Otherwise it ends with the
-/// status of its first fault, whose line it writes to the fault sink; a fault there changes no status.
+/// Prints the list that the words ask for: of the distinct ids of their files, rising, each once. Otherwise
+/// it ends with the status of its first fault, whose line it writes to the fault sink; a fault there changes
+/// no status.
 pub fn run<R: Threads + Sync, I: Inputs, O: Sink, E: Sink, G: Gate>(
     _rt: &R,
     alloc: Global,
@@ -33,16 +36,16 @@ pub fn run<R: Threads + Sync, I: Inputs, O: Sink, E: Sink, G: Gate>(
     faults: &mut E,
     _gate: &G,
 ) -> Ended
-    ensures words { (result.status ≡ 2) ↔ (file_named (texts words.now) ≡ None) }
-    ensures file { IfSome (content_named (I.files inputs.old) (texts words.now)) (λ content.
-        Judges content result.status (O.written out.old) (O.written out.new)) }
+    ensures words { HasRead (texts words.now) result.status }
+    ensures ends { (ending : Result (Unit {0}) Fault) × (result.status ≡ status_of ending)
+        × Ends (I.files inputs.old) (texts words.now) (O.written out.old) (O.written out.new) ending
+        × Said (line_of_ending ending) (E.faults faults.old) (E.faults faults.new)
+        (E.written faults.old) (E.written faults.new) }
     ensures causes { HasCauses result.status
         (I.faults inputs.old) (I.faults inputs.new) (O.faults out.old) (O.faults out.new) }
     ensures silent { IsSilent result.status (O.written out.old) (O.written out.new) }
-    ensures line { Said (line_of result.status)
-        (E.faults faults.old) (E.faults faults.new) (E.written faults.old) (E.written faults.new) }
 {
-    match print_ids(alloc, words, inputs, out) {
+    match print_list(alloc, words, inputs, out) {
         Ok(()) => Ended { status: 0 },
         Err(fault) => report(faults, fault),
     }
@@ -51,31 +54,31 @@ pub fn run<R: Threads + Sync, I: Inputs, O: Sink, E: Sink, G: Gate>(
 /// Ends a run whose words could not be had for want of memory: its line, and status 1.
 pub fn out_of_memory<E: Sink>(faults: &mut E) -> Ended
     ensures status { result.status ≡ 1 }
-    ensures line { Said (line_of 1)
+    ensures line { Said (line_of Fault.NoMemory)
         (E.faults faults.old) (E.faults faults.new) (E.written faults.old) (E.written faults.new) }
 {
     report(faults, Fault::NoMemory)
 }
 
 // The run without its report.
-fn print_ids<I: Inputs, O: Sink>(
+fn print_list<I: Inputs, O: Sink>(
     alloc: Global,
     words: &[String],
     inputs: &mut I,
     out: &mut O,
 ) -> Result<(), Fault>
-    ensures words { (status_of result ≡ 2) ↔ (file_named (texts words.now) ≡ None) }
-    ensures file { IfSome (content_named (I.files inputs.old) (texts words.now)) (λ content.
-        Judges content (status_of result) (O.written out.old) (O.written out.new)) }
+    ensures words { HasRead (texts words.now) (status_of result) }
+    ensures ends { Ends (I.files inputs.old) (texts words.now)
+        (O.written out.old) (O.written out.new) result }
     ensures causes { HasCauses (status_of result)
         (I.faults inputs.old) (I.faults inputs.new) (O.faults out.old) (O.faults out.new) }
     ensures silent { IsSilent (status_of result) (O.written out.old) (O.written out.new) }
 {
-    let Some(file) = file_named(words) else {
-        return Err(Fault::BadWords);
+    let asked = match read_words(alloc, words) {
+        Ok(asked) => asked,
+        Err(fault) => return Err(fault),
     };
-    let front = load(alloc, inputs, file)?;
-    let text = match output_of(alloc, &front) {
+    let text = match list_of(alloc, inputs, &asked) {
         Ok(text) => text,
         Err(fault) => return Err(fault),
     };
@@ -85,21 +88,25 @@ fn print_ids<I: Inputs, O: Sink>(
     }
 }
 
-// What is printed of a plain file.
-fn output_of(alloc: Global, file: &[u8]) -> Result<Vec<u8>, Fault>
-    ensures output { IfOk result (λ output. IsOutput file.now output.items) }
-    ensures not_plain { IsErrOf result Fault.NotPlain → (texts : List (List ℕ)) → IsPlain file.now texts → ⊥ }
-    ensures fault { OnErr result ((result ≡ Err Fault.NoMemory) ⊎ (result ≡ Err Fault.NotPlain)) }
+// The list that is asked for.
+fn list_of<I: Inputs>(alloc: Global, inputs: &mut I, asked: &Command<'_>) -> Result<Vec<u8>, Fault>
+    requires { length asked.now.files.items ≤ 64 }
+    ensures lists { ListsFiles (I.files inputs.old)
+        (map (λ name. name.now) asked.now.files.items) asked.now.listing result }
+    ensures read { status_of result ≡ 4 → Rose (I.faults inputs.old) (I.faults inputs.new) }
 {
-    let ids = ids_of(alloc, file)?;
-    let keys = distinct(alloc, &ids)?;
-    Ok(id_lines(alloc, &keys)?)
+    let records = match load(alloc, inputs, &asked.files) {
+        Ok(records) => records,
+        Err(fault) => return Err(fault.into()),
+    };
+    let firsts = firsts(alloc, &records)?;
+    Ok(text_of(alloc, asked.listing, records.len() as u64, &firsts)?)
 }
 
 // Writes the fault's line, and ends with its status.
 fn report<E: Sink>(faults: &mut E, fault: Fault) -> Ended
     ensures status { result.status ≡ status_of_fault fault }
-    ensures line { Said (line_of (status_of_fault fault))
+    ensures line { Said (line_of fault)
         (E.faults faults.old) (E.faults faults.new) (E.written faults.old) (E.written faults.new) }
 {
     // A fault in writing the line changes no status.

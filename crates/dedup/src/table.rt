@@ -1,53 +1,64 @@
 // The ids in an arena of words, put there by the steps of a lone caller.
 ghost use Rattle.std.specs.Prelude.{◌≡◌, ℕ, ◌+◌, ◌-◌, ◌<◌, ◌≤◌, ◌^◌, length, slice_index, insert, IfOk, IfErr};
-ghost use Rattle.std.specs.List.Sorted.{IsStrictlyIncreasing};
-ghost use Rattle.set_model.specs.Keys.{keys_set, IsPlaceFor};
+ghost use Rattle.set_model.specs.Keys.{IsPlaceFor};
 ghost use Rattle.step_core.specs.Content.{row_keys};
 ghost use Rattle.step_core.specs.Drawn.{HasBuilt};
 ghost use Rattle.step_core.specs.Format.{next_of};
 ghost use Rattle.step_core.specs.Single.{only_row};
+ghost use Rattle.dedup.specs.Records.{AreChanging, AreFirsts};
 ghost use Rattle.dedup.specs.Table.{HasRoom, HasTaken, IsRow};
 
+use crate::load::RECORDS;
 use crate::steps::{draw, load_bucket, load_head, load_sealed, swap_row, write};
+use idfiles::IdRecord;
 use set_model::NoMemory;
 use std::alloc::Global;
-use step_core::{FIRST_BUCKET, FIRST_KEY, Layout, Words, live_keys, opening};
-
-/// The most records of a run.
-pub(crate) const RECORDS: usize = 2048;
+use step_core::{FIRST_BUCKET, FIRST_KEY, Layout, Words, opening};
 
 /// The number of words: no run of so many records draws past them.
 const END: u64 = 1 << 23;
 
-/// The distinct ids, rising.
-pub(crate) fn distinct(alloc: Global, ids: &[u64]) -> Result<Vec<u64>, NoMemory>
-    requires { length ids.now ≤ RECORDS }
-    ensures same { IfOk result (λ keys. keys_set keys.items ≡ keys_set ids.now) }
-    ensures rising { IfOk result (λ keys. IsStrictlyIncreasing keys.items) }
+/// The first record of each id, rising by id.
+pub(crate) fn firsts(alloc: Global, records: &[IdRecord]) -> Result<Vec<IdRecord>, NoMemory>
+    requires { length records.now ≤ RECORDS }
+    ensures { IfOk result (λ firsts. AreFirsts records.now firsts.items) }
+{
+    let mut firsts = changing(alloc, records)?;
+    firsts.sort_by_key(|record| record.id)?;
+    Ok(firsts)
+}
+
+// The records whose insert changed the set, in their order.
+fn changing(alloc: Global, records: &[IdRecord]) -> Result<Vec<IdRecord>, NoMemory>
+    requires { length records.now ≤ RECORDS }
+    ensures { IfOk result (λ firsts. AreChanging records.now firsts.items) }
 {
     let layout = Layout { seats: 1, cap: END };
     let mut words = opening(alloc, &layout, &[])?;
-    for id in ids {
-        take(&mut words, *id);
+    let mut firsts = Vec::new(alloc);
+    for record in records {
+        if insert(&mut words, record.id) {
+            firsts.push(*record)?;
+        }
     }
-    let keys = live_keys(alloc, &words)?;
-    Ok(keys)
+    Ok(firsts)
 }
 
-// Makes the id a member.
-fn take(words: &mut Words, id: u64)
+// Makes the id a member. The answer is whether it was none.
+fn insert(words: &mut Words, id: u64) -> bool
     requires { HasRoom words.old }
-    ensures { HasTaken words.old words.new id }
+    ensures { HasTaken words.old words.new id result }
 {
     let bucket = load_head(words) + FIRST_BUCKET;
     let found = load_bucket(words, bucket);
     let row = found / 2;
     let Err(place) = place_of(words, row, id) else {
-        return;
+        return false;
     };
     let start = build(words, row, place, id);
     // The id becomes a member here. Nobody else makes steps, so the bucket is as it was found.
     swap_row(words, bucket, found, 2 * start);
+    true
 }
 
 // The id's place among the keys of the row, or the place where it would stand.

@@ -1,7 +1,7 @@
 use Rattle.std.proofs.Common.{◌≡◌, take}
 use Rattle.std.specs.Prelude.{flat_map}
-use Rattle.dedup.specs.Plain.{id_line}
+use Rattle.dedup.specs.Output.{id_line}
 use Rattle.dedup.proofs.output.id_lines.Given as goal
 
-abbrev pub invariant-loop-id : goal.invariant-loop-id
-invariant-loop-id l = l.text.items ≡ flat_map id_line (take l.id-index l.ids)
+abbrev pub invariant-loop-first : goal.invariant-loop-first
+invariant-loop-first l = l.text.items ≡ flat_map (λ r. id_line r.id) (take l.first-index l.firsts)

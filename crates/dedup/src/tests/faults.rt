@@ -1,0 +1,104 @@
+use super::{Fails, IDS, NONE, run_on, sink};
+use crate::out_of_memory;
+use std::test::Fail;
+
+#[test]
+fn each_failed_read_ends_the_run(rt: HostRuntime) -> Result<(), Fail> {
+    // The start is call 0, and call 7 finds the end of the file. Call 8 is never made.
+    for call in 0..9 {
+        let fails = Fails {
+            inputs: call,
+            ..NONE
+        };
+        let outcome = run_on(&rt, rt.alloc(), &IDS, b"3\n1\n3\n", b"", &fails)?;
+        let (status, out, line): (u8, &[u8], &[u8]) = match call {
+            8 => (0, b"1\n3\n", b""),
+            _ => (4, b"", b"dedup: read fault in file 1\n"),
+        };
+        assert_eq!(rt; outcome.status, status, "at call {call}");
+        assert_eq!(rt; outcome.out.bytes(), out, "at call {call}");
+        assert_eq!(rt; outcome.faults.bytes(), line, "at call {call}");
+    }
+    Ok(())
+}
+
+#[test]
+fn a_bad_line_is_told_at_its_end(rt: HostRuntime) -> Result<(), Fail> {
+    // Call 2 reads the LF of the bad line, and no later call is made.
+    for call in 0..4 {
+        let fails = Fails {
+            inputs: call,
+            ..NONE
+        };
+        let outcome = run_on(&rt, rt.alloc(), &IDS, b"x\n1\n", b"", &fails)?;
+        let (status, line): (u8, &[u8]) = match call {
+            3 => (3, b"dedup: bad line 1:1\n"),
+            _ => (4, b"dedup: read fault in file 1\n"),
+        };
+        assert_eq!(rt; outcome.status, status, "at call {call}");
+        assert!(rt; outcome.out.bytes().is_empty(), "at call {call}");
+        assert_eq!(rt; outcome.faults.bytes(), line, "at call {call}");
+    }
+    Ok(())
+}
+
+#[test]
+fn each_failed_write_leaves_a_front_of_the_output(rt: HostRuntime) -> Result<(), Fail> {
+    let output = b"1\n3\n";
+    for call in 0..5 {
+        let fails = Fails { out: call, ..NONE };
+        let outcome = run_on(&rt, rt.alloc(), &IDS, b"3\n1\n3\n", b"", &fails)?;
+        let (status, count, line): (u8, usize, &[u8]) = match call {
+            4 => (0, 4, b""),
+            _ => (5, call as usize, b"dedup: write fault\n"),
+        };
+        assert_eq!(rt; outcome.status, status, "at call {call}");
+        assert_eq!(rt; outcome.out.bytes(), &output[..count], "at call {call}");
+        assert_eq!(rt; outcome.faults.bytes(), line, "at call {call}");
+    }
+    Ok(())
+}
+
+#[test]
+fn a_fault_in_the_fault_line_changes_no_status(rt: HostRuntime) -> Result<(), Fail> {
+    let fails = Fails { faults: 0, ..NONE };
+    let read = Fails { inputs: 1, ..fails };
+    let write = Fails { out: 2, ..fails };
+    let cases: [(&[&str], &[u8], Fails, u8); 4] = [
+        (&["dedup"], b"3\n1\n3\n", fails, 2),
+        (&IDS, b"x\n1\n", fails, 3),
+        (&IDS, b"3\n1\n3\n", read, 4),
+        (&IDS, b"3\n1\n3\n", write, 5),
+    ];
+    for (words, file, fails, status) in cases {
+        let outcome = run_on(&rt, rt.alloc(), words, file, b"", &fails)?;
+        assert_eq!(rt; outcome.status, status);
+        assert!(rt; outcome.faults.bytes().is_empty(), "at status {status}");
+    }
+    Ok(())
+}
+
+#[test]
+fn refused_memory_ends_the_run_with_nothing_printed(rt: HostRuntime) -> Result<(), Fail> {
+    // Run with each allocation refused in turn; with none refused it is a plain run.
+    let outcome = run_on(&rt, rt.alloc(), &IDS, b"3\n1\n3\n", b"", &NONE)?;
+    if outcome.status == 0 {
+        assert_eq!(rt; outcome.out.bytes(), b"1\n3\n".as_slice());
+        return Ok(());
+    }
+    assert_eq!(rt; outcome.status, 1);
+    assert!(rt; outcome.out.bytes().is_empty());
+    assert_eq!(rt;
+        outcome.faults.bytes(),
+        b"dedup: out of memory\n".as_slice()
+    );
+    Ok(())
+}
+
+#[test]
+fn words_that_could_not_be_had_are_want_of_memory(rt: HostRuntime) -> Result<(), Fail> {
+    let mut faults = sink(rt.alloc(), u64::MAX)?;
+    assert_eq!(rt; out_of_memory(&mut faults).status, 1);
+    assert_eq!(rt; faults.bytes(), b"dedup: out of memory\n".as_slice());
+    Ok(())
+}

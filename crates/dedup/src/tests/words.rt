@@ -1,0 +1,90 @@
+use crate::fault::Fault;
+use crate::words::read_words;
+use std::alloc::{AllocError, Global};
+use std::test::Fail;
+
+// The list and the files that these words behind the program's name ask for, or that they are bad.
+fn answer_to(alloc: Global, words: &[&str]) -> Result<String, Fail> {
+    let mut owned = Vec::new(alloc);
+    owned.push(String::from_str(alloc, "dedup")?)?;
+    for word in words {
+        owned.push(String::from_str(alloc, word)?)?;
+    }
+    match read_words(alloc, &owned) {
+        Ok(asked) => {
+            let files = asked.files.join(alloc, " ")?;
+            Ok(format!(in alloc; "{:?}: {files}", asked.listing)?)
+        }
+        Err(Fault::BadWords) => Ok(String::from_str(alloc, "bad words")?),
+        Err(_) => Err(AllocError.into()),
+    }
+}
+
+#[test]
+fn reads_the_command_and_nothing_else(rt: HostRuntime) -> Result<(), Fail> {
+    let cases: [(&[&str], &str); 33] = [
+        (&["f"], "Keep: f"),
+        (&["g", "f", "g"], "Keep: g f g"),
+        (&["--list", "keep", "f"], "Keep: f"),
+        (&["--list", "count", "f"], "Count: f"),
+        (&["--list=ids", "f"], "Ids: f"),
+        (&["f", "--list", "ids", "g", "--workers", "1"], "Ids: f g"),
+        (&["--workers", "1", "f"], "Keep: f"),
+        (&["--workers", "01", "f"], "Keep: f"),
+        (&["--workers=001", "f"], "Keep: f"),
+        (&["--", "-x"], "Keep: -x"),
+        (&["f", "--", "--list", "ids"], "Keep: f --list ids"),
+        (&["-"], "Keep: -"),
+        (&[""], "Keep: "),
+        (&["help"], "Keep: help"),
+        (&[], "bad words"),
+        (&["--"], "bad words"),
+        (&["--list", "ids"], "bad words"),
+        (&["f", "--list"], "bad words"),
+        (&["--list", "ids", "--list", "ids", "f"], "bad words"),
+        (&["--list", "all", "f"], "bad words"),
+        (&["--list=", "f"], "bad words"),
+        (&["--workers", "0001", "f"], "bad words"),
+        (&["--workers", "0", "f"], "bad words"),
+        (&["--workers", "2", "f"], "bad words"),
+        (&["--workers", "1x", "f"], "bad words"),
+        (&["--workers", "+1", "f"], "bad words"),
+        (&["--workers", "", "f"], "bad words"),
+        (&["--workers=", "f"], "bad words"),
+        (&["--help", "f"], "bad words"),
+        (&["-h", "f"], "bad words"),
+        (&["--version", "f"], "bad words"),
+        (&["--way", "try", "f"], "bad words"),
+        (&["--check", "g", "f"], "bad words"),
+    ];
+    for (words, answer) in cases {
+        assert_eq!(rt;
+            answer_to(rt.alloc(), words)?.as_str(),
+            answer,
+            "at {words:?}"
+        );
+    }
+    Ok(())
+}
+
+#[test]
+fn a_command_has_64_files_at_most(rt: HostRuntime) -> Result<(), Fail> {
+    let files = ["f"; 65];
+    let most = answer_to(rt.alloc(), &files[..64])?;
+    assert_eq!(rt; most.len(), "Keep:".len() + 64 * " f".len());
+    assert_eq!(rt; answer_to(rt.alloc(), &files)?.as_str(), "bad words");
+    Ok(())
+}
+
+#[test]
+fn the_first_word_is_the_name_whatever_it_is(rt: HostRuntime) -> Result<(), Fail> {
+    let alloc = rt.alloc();
+    let no_words: [String; 0] = [];
+    assert!(rt; matches!(read_words(alloc, &no_words), Err(Fault::BadWords)));
+    let words = [
+        String::from_str(alloc, "--help")?,
+        String::from_str(alloc, "f")?,
+    ];
+    assert!(rt; read_words(alloc, &words).is_ok());
+    Ok(())
+}

@@ -13,9 +13,10 @@ use Rattle.step_core.specs.Content.{HasMembers, row_keys}
 use Rattle.step_core.specs.Drawn.{HasBuilt, HasReplaced, IsReady}
 use Rattle.step_core.specs.Fits.{IsWellFormed}
 use Rattle.step_core.specs.Format.{next_of}
-use Rattle.step_core.specs.Openings.{opening_len, opening_of}
+use Rattle.step_core.specs.Openings.{exponent_from, opening_words, opening_of, rows_of}
 use Rattle.step_core.specs.Single.{HasOneBucket, only_row}
 use Rattle.step_core.proofs.LawKeys.{contains-absent, contains-here, keys_set-insert, IsStrictlyIncreasing-insert}
+use Rattle.step_core.proofs.LawOpened.{opening_words-none, opening-one_bucket}
 use Rattle.step_core.proofs.LawOpening.{length-opening_of}
 use Rattle.step_core.proofs.LawSingle.{one_row}
 use Rattle.dedup.specs.Table.{HasRoom, HasTaken, HoldsFew, size_of}
@@ -82,22 +83,23 @@ IsReady-longer words now place id room free built =
       within = omega (arith, room.room, length-insert old place id free.within);
     }
 
-size_of-opening : (cap : ℕ) → size_of (opening_of 1 cap) ≡ 0
+size_of-opening : (cap : ℕ) → size_of (opening_of 1 cap []) ≡ 0
+unfolding exponent_from rows_of
 size_of-opening cap = refl
 
-next_of-opening : (cap : ℕ) → next_of (opening_of 1 cap) ≡ opening_len 1
+next_of-opening : (cap : ℕ) → next_of (opening_of 1 cap []) ≡ opening_words 1 []
 next_of-opening cap = refl
 
 -- an opening holds nothing
-pub HoldsFew-opening : (words : List ℕ) (cap : ℕ) → opening_len 1 ≤ cap → words ≡ opening_of 1 cap → IsWellFormed words → HasOneBucket words → HasMembers words set.empty
+pub HoldsFew-opening : (words : List ℕ) (cap : ℕ) → opening_words 1 [] ≤ cap → words ≡ opening_of 1 cap [] → IsWellFormed words → HasMembers words set.empty
     → HoldsFew words cap (keys_set []) 0
-HoldsFew-opening words cap fits is well single members = record {
+HoldsFew-opening words cap fits is well members = record {
   well_formed = well;
-  single = single;
+  single = subst HasOneBucket (sym is) (opening-one_bucket 1 cap fits);
   members = members;
   size = omega (arith, ap size_of is, size_of-opening cap);
   next = omega (arith, ap next_of is, next_of-opening cap);
-  long = ap length is ∙ length-opening_of 1 cap fits;
+  long = ap length is ∙ length-opening_of 1 cap [] fits;
 }
 
 -- there is room for one more id
@@ -105,7 +107,7 @@ pub HasRoom-few : (words : List ℕ) (keys : set.FinSet nat_cmp) (records : ℕ)
 HasRoom-few words keys records few more = record {
   well_formed = few.well_formed;
   single = few.single;
-  room = omega (arith, few.size, few.next, few.long, more);
+  room = omega (arith, few.size, few.next, few.long, more, opening_words-none 1);
   fits = omega (arith, few.long);
 }
 

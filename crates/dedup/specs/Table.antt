@@ -1,5 +1,5 @@
 -- The words that a run keeps its ids in: one bucket, whose row has them all.
-use Rattle.std.specs.Prelude.{◌≡◌, ℕ, Bool, ◌+◌, ◌*◌, ◌<◌, ◌≤◌, ◌^◌, List, length, slice_index}
+use Rattle.std.specs.Prelude.{◌≡◌, ℕ, Bool, ◌+◌, ◌*◌, ◌<◌, ◌≤◌, ◌^◌, List, [], length, slice_index}
 use Rattle.std.specs.List.Sorted.{IsStrictlyIncreasing}
 use Rattle.std.specs.Ordering.{nat_cmp}
 use Rattle.std.specs.FinSet.{FinSet}
@@ -8,7 +8,7 @@ use Rattle.set_model.specs.declared.call.Call.TheVariants.{Insert}
 use Rattle.step_core.specs.Content.{HasMembers, row_keys}
 use Rattle.step_core.specs.Fits.{IsWellFormed}
 use Rattle.step_core.specs.Format.{next_of}
-use Rattle.step_core.specs.Openings.{opening_len}
+use Rattle.step_core.specs.Openings.{opening_words}
 use Rattle.step_core.specs.Single.{HasOneBucket, only_row}
 use Rattle.step_core.specs.declared.format.TheConstants.{FIRST_KEY}
 use Rattle.dedup.specs.declared.load.TheConstants.{RECORDS}
@@ -47,5 +47,5 @@ pub record HoldsFew (words : List ℕ) (end : ℕ) (keys : FinSet nat_cmp) (reco
   pub single : HasOneBucket words
   pub members : HasMembers words keys
   pub size : size_of words ≤ records
-  pub next : next_of words ≤ opening_len 1 + records * (FIRST_KEY + RECORDS)
+  pub next : next_of words ≤ opening_words 1 [] + records * (FIRST_KEY + RECORDS)
   pub long : length words ≡ end

@@ -12,13 +12,14 @@ use Rattle.step_core.specs.declared.format.TheConstants.{HEAD, NEXT, FIRST_BUCKE
 use Rattle.step_core.specs.declared.kinds.Step.TheVariants.{Draw, Write, SwapRow}
 use Rattle.step_core.specs.declared.published.Published.TheVariants.{Generation}
 use Rattle.step_core.proofs.LawSingle.{one_row, row_keys-at, row_keys-long}
-use Rattle.step_core.proofs.LawTable.{IsTable, table_well_formed, table_single, table_row, table_members}
+use Rattle.step_core.proofs.LawTable.{IsTable, one_row_well_formed, one_row_single, one_row_keys, one_row_members}
+use Rattle.step_core.proofs.LawShown.{shown_by}
 
 -- a draw begins a block, with nothing written
 pub drawn : (words later : List ℕ) (len : ℕ) → IsWellFormed words → later ≡ after_step (Draw len) words
     → HasDrawn words later len []
 drawn words later len well after =
-    let fits = well.2 in
+    let fits = (shown_by words well).2 in
     let head = fits.shown (head_of words) (Generation fits.head.0) fits.head.1 in
     let low : NEXT < next_of words = omega (arith, head.first, head.drawn) in
     let there : NEXT < length words = omega (arith, head.first, head.within) in
@@ -170,9 +171,9 @@ module _ {before now keys : List ℕ} (ready : IsReady before now keys) where
   swapped_is_table : (seats : ℕ) × IsTable seats swapped_words (head_of before) (next_of before) keys
   swapped_is_table =
       let one = one_row before ready.well_formed ready.single in
-      let fits = ready.well_formed.2 in
+      let fits = (shown_by before ready.well_formed).2 in
       let head = fits.shown (head_of before) (Generation fits.head.0) fits.head.1 in (
-        ready.well_formed.0,
+        (shown_by before ready.well_formed).0,
         record {
           first = head.first;
           order = omega (arith, one.drawn);
@@ -209,10 +210,10 @@ module _ {before now keys : List ℕ} (ready : IsReady before now keys) where
       let table = swapped_is_table.1 in
       let seats = swapped_is_table.0 in
       subst (λ (words : List ℕ). HasReplaced before words keys) (sym (after ∙ swap_wins at old new swap)) (record {
-        well_formed = table_well_formed seats swapped_words (head_of before) (next_of before) keys table;
-        single = table_single seats swapped_words (head_of before) (next_of before) keys table;
-        row = table_row seats swapped_words (head_of before) (next_of before) keys table;
-        members = table_members seats swapped_words (head_of before) (next_of before) keys table;
+        well_formed = one_row_well_formed seats swapped_words (head_of before) (next_of before) keys table;
+        single = one_row_single seats swapped_words (head_of before) (next_of before) keys table;
+        row = one_row_keys seats swapped_words (head_of before) (next_of before) keys table;
+        members = one_row_members seats swapped_words (head_of before) (next_of before) keys table;
         head = head-swapped;
         next = omega (arith, next-swapped);
         long = length-swapped;

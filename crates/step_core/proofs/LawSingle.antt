@@ -10,9 +10,11 @@ use Rattle.set_model.specs.Keys.{keys_set}
 use Rattle.step_core.specs.Format.{head_of, Stands, IsNil, IsMutable, row_address, mutable_word}
 use Rattle.step_core.specs.Content.{bucket_word, spot_of, row_keys, content_of, live_word, is_decided, applied, HasMembers}
 use Rattle.step_core.specs.Fits.{IsAtHome, IsWellFormed}
+use Rattle.step_core.specs.Plain.{HasPlainRows}
 use Rattle.step_core.specs.Single.{only_row, HasOneBucket, OneRow}
 use Rattle.step_core.specs.declared.format.TheConstants.{FIRST_BUCKET, FIRST_KEY}
 use Rattle.step_core.specs.declared.published.Published.TheVariants.{Generation, Row}
+use Rattle.step_core.proofs.LawShown.{shown_by}
 
 -- where there is one bucket, it is every spot's
 pub bucket_word-one : (words : List ℕ) (at spot : ℕ) → slice_index words at ≡ 0
@@ -69,7 +71,7 @@ even_half word even = omega arith
 -- what well-formed words with one bucket show
 pub one_row : (words : List ℕ) → IsWellFormed words → HasOneBucket words → OneRow words
 one_row words well one =
-    let fits = well.2 in
+    let fits = (shown_by words well).2 in
     let generation = fits.head.0 in
     let head = fits.shown (head_of words) (Generation generation) fits.head.1 in
     let exponent : generation.exponent ≡ 0 =
@@ -78,7 +80,7 @@ one_row words well one =
     let bucket = bucket_word-one words (head_of words) 0 one.exponent in
     let filled : ¬ IsNil (slice_index words (head_of words + FIRST_BUCKET)) =
     subst (λ (word : ℕ). ¬ IsNil word) bucket (fits.filled (head_of words) generation 0 fits.head.1 predecessor) in
-    let home = subst (λ (word : ℕ). IsAtHome well.1 (row_address word) generation 0) bucket
+    let home = subst (λ (word : ℕ). IsAtHome (shown_by words well).1 (row_address word) generation 0) bucket
     (fits.names (head_of words) generation 0 fits.head.1 (fits.filled (head_of words) generation 0 fits.head.1 predecessor)) in
     let row = home.row in
     let shown = fits.shown (only_row words) (Row row) home.here in
@@ -113,3 +115,19 @@ pub row_keys-long : (words : List ℕ) (row : ℕ) → row + FIRST_KEY + slice_i
     → length (row_keys words row) ≡ slice_index words row
 row_keys-long words row within =
     length-take (slice_index words row) (drop (row + FIRST_KEY) words) ∙ omega (arith, length-drop (row + FIRST_KEY) words)
+
+-- one bucket whose row has no operation is one generation of plain rows
+pub plain_from_single : (words : List ℕ) → HasOneBucket words → HasPlainRows words
+plain_from_single words one = record {
+  predecessor = one.predecessor;
+  plain = λ spot. ap (λ (word : ℕ). slice_index words (row_address word + 1)) (bucket_word-one words
+      (head_of words) spot one.exponent) ∙ one.op;
+}
+
+-- and the other way round, where the exponent is 0
+pub single_from_plain : (words : List ℕ) → slice_index words (head_of words) ≡ 0 → HasPlainRows words → HasOneBucket words
+single_from_plain words exponent plain = record {
+  exponent = exponent;
+  predecessor = plain.predecessor;
+  op = ap (λ (word : ℕ). slice_index words (row_address word + 1)) (sym (bucket_word-one words (head_of words) 0 exponent)) ∙ plain.plain 0;
+}

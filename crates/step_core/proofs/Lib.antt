@@ -1,6 +1,25 @@
+pub mod LawAbove
+pub mod LawBegins
+pub mod LawBuckets
+pub mod LawCalls
+pub mod LawChange
 pub mod LawDrawn
+pub mod LawExponents
+pub mod LawHead
 pub mod LawKeys
+pub mod LawLive
+pub mod LawOpened
 pub mod LawOpening
+pub mod LawOwned
+pub mod LawPlain
+pub mod LawTableBlocks
+pub mod LawTableFits
+pub mod LawTableMembers
+pub mod LawPlaces
+pub mod LawRising
+pub mod LawRows
+pub mod LawShown
 pub mod LawSingle
+pub mod LawSpots
 pub mod LawSteps
 mod LawTable

@@ -18,6 +18,10 @@ bucket_of exponent spot = spot % 2 ^ exponent
 abbrev pub InClass : ℕ → ℕ → ℕ → Type 0
 InClass exponent bucket key = bucket_of exponent (spot_of key) ≡ bucket
 
+-- the exponent of the head generation
+abbrev pub exponent_of : List ℕ → ℕ
+exponent_of words = slice_index words (head_of words)
+
 -- the word of a spot's bucket in the generation
 abbrev pub bucket_word : List ℕ → ℕ → ℕ → ℕ
 bucket_word words generation spot =

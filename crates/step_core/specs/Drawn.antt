@@ -4,7 +4,7 @@ use Rattle.std.specs.List.Sorted.{IsStrictlyIncreasing}
 use Rattle.set_model.specs.Keys.{keys_set}
 use Rattle.step_core.specs.Content.{HasMembers, row_keys}
 use Rattle.step_core.specs.Fits.{IsWellFormed}
-use Rattle.step_core.specs.Format.{head_of, next_of, Stands, mutable_word}
+use Rattle.step_core.specs.Format.{head_of, next_of, Stands, mutable_word, row_words}
 use Rattle.step_core.specs.Single.{HasOneBucket, only_row}
 use Rattle.step_core.specs.Steps.{after_step}
 use Rattle.step_core.specs.declared.format.TheConstants.{NEXT, FIRST_BUCKET, FIRST_KEY}
@@ -18,10 +18,6 @@ pub record HasDrawn (before now : List ℕ) (len : ℕ) (written : List ℕ) : T
   pub block : Stands now (next_of before) written
   pub empty : (at : ℕ) → next_of before + length written ≤ at → slice_index now at ≡ 0
   pub kept : (at : ℕ) → at ≢ NEXT → at < next_of before → slice_index now at ≡ slice_index before at
-
--- the words of a row of these keys without an operation
-abbrev pub row_words : List ℕ → List ℕ
-row_words keys = length keys ∷ 0 ∷ 0 ∷ keys
 
 -- since `before` a row of these keys was drawn, and all but its keys from the i-th on is written
 abbrev pub HasBegun : List ℕ → List ℕ → List ℕ → ℕ → Type 0

@@ -1,58 +1,140 @@
--- When the words of a round are well formed: there are published blocks that they show.
-use Rattle.std.specs.Prelude.{◌≡◌, ℕ, ◌+◌, ◌<◌, ◌≤◌, List, length, slice_index, All, Option, Some}
+-- When the words of a round, its published blocks and its passes' views fit: what holds of them between any two
+-- steps, their history apart.
+use Rattle.std.specs.Prelude.{◌≡◌, ◌≢◌, ℕ, zero, suc, ◌+◌, ◌*◌, ◌<◌, ◌≤◌, ◌⊎◌, List, length, if◌then◌else◌, is_some, sum_by, All, Option, Some, None}
 use Rattle.std.specs.List.Sorted.{IsStrictlyIncreasing}
-use Rattle.step_core.specs.Format.{head_of, next_of, base_of, sealed_words, block_len, Stands, IsNil, IsMutable, row_address}
-use Rattle.step_core.specs.Content.{bucket_of, bucket_word, InClass}
+use Rattle.step_core.specs.Format.{IsNil, IsMutable, row_address}
+use Rattle.step_core.specs.Content.{bucket_of, InClass}
+use Rattle.step_core.specs.States.{RoundState, AreLaidOut, IsGeneration, IsRow, IsOp, Each, fresh_views}
+use Rattle.step_core.specs.declared.format.TheConstants.{MAX_EXPONENT, MAX_DRAW, OP_LEN}
 use Rattle.step_core.specs.declared.published.Published.{Published}
-use Rattle.step_core.specs.declared.published.Published.TheVariants.{Generation, Row}
+use Rattle.step_core.specs.declared.published.Published.TheVariants.{Generation, Row, Op}
 use Rattle.step_core.specs.declared.published.GenerationBlock.{GenerationBlock}
 use Rattle.step_core.specs.declared.published.RowBlock.{RowBlock}
-
--- the block lies in the drawn part of the arena, and its sealed words stand there
-pub record IsShown (seats : ℕ) (words : List ℕ) (at : ℕ) (block : Published) : Type 0 where
-  pub first : base_of seats ≤ at
-  pub drawn : at + block_len block ≤ next_of words
-  pub within : at + block_len block ≤ length words
-  pub sealed : Stands words at (sealed_words block)
-
--- a row holds rising keys of its bucket's class
-pub record KeepsHome (row : RowBlock) : Type 0 where
-  pub rising : IsStrictlyIncreasing row.keys
-  pub class : All (InClass row.exponent row.bucket) row.keys
+use Rattle.step_core.specs.declared.published.OpBlock.{OpBlock}
+use Rattle.step_core.specs.declared.views.PassView.{PassView}
+use Rattle.step_core.specs.declared.views.RoundFacts.{RoundFacts}
 
 -- the row at the address was published for the spot's bucket of the generation
 pub record IsAtHome (blocks : ℕ → Option Published) (at : ℕ) (generation : GenerationBlock) (spot : ℕ)
     : Type 0 where
   pub row : RowBlock
-  pub here : blocks at ≡ Some (Row row)
+  pub here : IsRow blocks at row
   pub exponent : row.exponent ≡ generation.exponent
   pub bucket : row.bucket ≡ bucket_of generation.exponent spot
 
--- the words of a round with so many seats show these published blocks
-pub record Fits (seats : ℕ) (words : List ℕ) (blocks : ℕ → Option Published) : Type 0 where
-  -- each block is there, and no two share a word
-  pub shown : (at : ℕ) (block : Published) → blocks at ≡ Some block → IsShown seats words at block
-  pub apart : (at other : ℕ) (block next : Published)
-      → blocks at ≡ Some block → blocks other ≡ Some next → at < other
-      → at + block_len block ≤ other
-  -- nothing is written past the drawn words
-  pub empty : (at : ℕ) → next_of words ≤ at → slice_index words at ≡ 0
-  -- HEAD names a generation
-  pub head : (generation : GenerationBlock)
-      × (blocks (head_of words) ≡ Some (Generation generation))
-  -- no bucket of the head is frozen
-  pub mutable : (spot : ℕ) → IsMutable (bucket_word words (head_of words) spot)
-  -- a generation without a predecessor has no nil bucket
-  pub filled : (at : ℕ) (generation : GenerationBlock) (spot : ℕ)
-      → blocks at ≡ Some (Generation generation) → generation.predecessor ≡ 0
-      → ¬ IsNil (bucket_word words at spot)
-  -- a bucket names a row of its own
-  pub names : (at : ℕ) (generation : GenerationBlock) (spot : ℕ)
-      → blocks at ≡ Some (Generation generation) → ¬ IsNil (bucket_word words at spot)
-      → IsAtHome blocks (row_address (bucket_word words at spot)) generation spot
-  -- rows hold what their buckets may hold
-  pub homes : (at : ℕ) (row : RowBlock) → blocks at ≡ Some (Row row) → KeepsHome row
+-- the predecessor that a generation names
+abbrev pub predecessor_of : Option Published → ℕ
+predecessor_of None = 0
+predecessor_of (Some (Generation generation)) = generation.predecessor
+predecessor_of (Some (Row row)) = 0
+predecessor_of (Some (Op op)) = 0
 
--- the words show some published blocks, as they do between any two steps
+-- the address of the generation so many before the one at the address
+unfoldable pub generation_before : (ℕ → Option Published) → ℕ → ℕ → ℕ
+generation_before blocks at zero = at
+generation_before blocks at (suc count) = predecessor_of (blocks (generation_before blocks at count))
+
+-- the generation's predecessor is published, isn't the head, and has one bucket bit more or less
+pub record FollowsAnother (head : ℕ) (blocks : ℕ → Option Published) (generation : GenerationBlock) : Type 0 where
+  pub other : GenerationBlock
+  pub there : IsGeneration blocks generation.predecessor other
+  pub not_head : generation.predecessor ≢ head
+  pub next : (generation.exponent ≡ other.exponent + 1) ⊎ (other.exponent ≡ generation.exponent + 1)
+
+-- the published generations are one chain, and their buckets name rows
+pub record IsChain (head : ℕ) (blocks : ℕ → Option Published) (cells : ℕ → ℕ → ℕ) : Type 0 where
+  -- HEAD names a generation
+  pub head_there : (generation : GenerationBlock) × IsGeneration blocks head generation
+  -- from it each is reached by predecessors
+  pub reached : (at : ℕ) (generation : GenerationBlock) → IsGeneration blocks at generation
+      → (count : ℕ) × (at ≡ generation_before blocks head count)
+  pub follows : (at : ℕ) (generation : GenerationBlock) → IsGeneration blocks at generation
+      → generation.predecessor ≢ 0 → FollowsAnother head blocks generation
+  pub small : (at : ℕ) (generation : GenerationBlock) → IsGeneration blocks at generation
+      → generation.exponent ≤ MAX_EXPONENT
+  -- no bucket of the head is frozen
+  pub mutable : (bucket : ℕ) → IsMutable (cells head bucket)
+  -- a bucket is nil at most in a head that has a predecessor
+  pub filled : (at : ℕ) (generation : GenerationBlock) (spot : ℕ) → IsGeneration blocks at generation
+      → (at ≢ head) ⊎ (generation.predecessor ≡ 0)
+      → ¬ IsNil (cells at (bucket_of generation.exponent spot))
+  -- a bucket names a row of its own
+  pub names : (at : ℕ) (generation : GenerationBlock) (spot : ℕ) → IsGeneration blocks at generation
+      → ¬ IsNil (cells at (bucket_of generation.exponent spot))
+      → IsAtHome blocks (row_address (cells at (bucket_of generation.exponent spot))) generation spot
+
+-- the row's operation is published, and its key is of the row's class
+pub record HasOp (blocks : ℕ → Option Published) (row : RowBlock) : Type 0 where
+  pub op : OpBlock
+  pub there : IsOp blocks row.op op
+  pub class : InClass row.exponent row.bucket op.key
+
+-- a row holds rising keys of its bucket's class, and an operation on a key of it or none
+pub record KeepsHome (blocks : ℕ → Option Published) (row : RowBlock) : Type 0 where
+  pub rising : IsStrictlyIncreasing row.keys
+  pub class : All (InClass row.exponent row.bucket) row.keys
+  pub op : row.op ≢ 0 → HasOp blocks row
+
+-- the words of a round with so many seats and its published blocks fit
+pub record HoldsBlocks (seats : ℕ) (words : List ℕ) (state : RoundState) : Type 0 where
+  pub laid : AreLaidOut (length words) seats words state
+  pub chain : IsChain state.head state.blocks state.cells
+  pub homes : (at : ℕ) (row : RowBlock) → IsRow state.blocks at row → KeepsHome state.blocks row
+
+-- the words have published blocks that they fit, as they do between any two steps
 abbrev pub IsWellFormed : List ℕ → Type 0
-IsWellFormed words = (seats : ℕ) × (blocks : ℕ → Option Published) × Fits seats words blocks
+IsWellFormed words = (seats : ℕ) × (state : RoundState) × HoldsBlocks seats words state
+
+-- an operation is one of a pass, and its result is one of the four
+pub record IsOfPass (seats : ℕ) (op : OpBlock) (result : ℕ) : Type 0 where
+  pub who : op.who < seats
+  pub known_result : result ≤ 3
+
+-- announced are published operations alone
+pub record AnnouncesOps (seats : ℕ) (announced : ℕ → ℕ) (blocks : ℕ → Option Published)
+    (cells : ℕ → ℕ → ℕ) : Type 0 where
+  pub ops : (at : ℕ) (op : OpBlock) → IsOp blocks at op → IsOfPass seats op (cells at 0)
+  pub words : (pass : ℕ) → pass < seats
+      → (announced pass ≡ 0) ⊎ ((op : OpBlock) × IsOp blocks (announced pass) op)
+
+-- whether the pass drew past the end, as a number
+abbrev pub spent_count : PassView → ℕ
+spent_count view = if is_some view.spent then 1 else 0
+
+-- a draw of at most so many words found the place, and passed the end
+pub record PassedEnd (cap next place : ℕ) : Type 0 where
+  pub len : ℕ
+  pub small : len ≤ MAX_DRAW
+  pub past : cap < place + len
+  pub counted : place + len ≤ next
+
+-- the draws that the views know add up to NEXT
+pub record IsAccount (facts : RoundFacts) (next ticket : ℕ) (views : List PassView) : Type 0 where
+  pub sum : next ≡ facts.opened + sum_by (λ view. view.drawn) views
+  -- each pass drew past the end once at most
+  pub bound : next ≤ facts.cap + MAX_DRAW * sum_by spent_count views
+  pub spent : Each (λ number view. (place : ℕ) → view.spent ≡ Some place → PassedEnd facts.cap next place) views
+  -- each ticket drawn has an operation's block of its own
+  pub tickets : OP_LEN * ticket ≤ next
+
+-- the view is that of the pass with this number, in this round
+pub record IsOfRound (facts : RoundFacts) (number : ℕ) (view : PassView) : Type 0 where
+  pub same_round : view.facts ≡ facts
+  pub is_pass : view.number ≡ number
+
+-- the words of a round, its state and its passes' views fit
+pub record Fits (facts : RoundFacts) (words : List ℕ) (state : RoundState) : Type 0 where
+  pub size : length words ≡ facts.cap
+  pub holds : HoldsBlocks facts.seats words state
+  pub announces : AnnouncesOps facts.seats state.announced state.blocks state.cells
+  pub account : IsAccount facts state.next state.ticket state.views
+  -- one view for each pass
+  pub passes : length state.views ≡ facts.seats
+  pub numbered : Each (IsOfRound facts) state.views
+  -- what a pass knows is published
+  pub known : Each (λ number view. All (λ block. state.blocks block.at ≡ Some block.block) view.known) state.views
+
+-- a round may begin with the words: they fit views that know nothing yet
+abbrev pub BeginsRound : RoundFacts → List ℕ → Type 0
+BeginsRound facts words =
+    (state : RoundState) × (state.views ≡ fresh_views facts) × Fits facts words state

@@ -1,8 +1,8 @@
 -- The fixed words of a round, and its blocks by their words.
-use Rattle.std.specs.Prelude.{◌≡◌, ℕ, ◌+◌, ◌*◌, ◌/◌, ◌%◌, ◌^◌, ◌<◌, List, [], ◌∷◌, length, slice_index}
+use Rattle.std.specs.Prelude.{◌≡◌, ℕ, ◌+◌, ◌*◌, ◌/◌, ◌%◌, ◌^◌, ◌<◌, Bool, if◌then◌else◌, List, [], ◌∷◌, length, slice_index}
 use Rattle.step_core.specs.declared.format.TheConstants.{HEAD, NEXT, FIRST_ANNOUNCED}
 use Rattle.step_core.specs.declared.published.Published.{Published}
-use Rattle.step_core.specs.declared.published.Published.TheVariants.{Generation, Row}
+use Rattle.step_core.specs.declared.published.Published.TheVariants.{Generation, Row, Op}
 
 -- the address of the head generation
 abbrev pub head_of : List ℕ → ℕ
@@ -16,15 +16,21 @@ next_of words = slice_index words NEXT
 abbrev pub base_of : ℕ → ℕ
 base_of seats = FIRST_ANNOUNCED + seats
 
+-- the kind of an operation as its word has it: 1 inserts, 2 removes
+abbrev pub kind_of : Bool → ℕ
+kind_of insert = if insert then 1 else 2
+
 -- the words of a block that don't change once it is published
 abbrev pub sealed_words : Published → List ℕ
 sealed_words (Generation block) = block.exponent ∷ block.predecessor ∷ []
 sealed_words (Row block) = length block.keys ∷ block.op ∷ block.ans ∷ block.keys
+sealed_words (Op block) = block.ticket ∷ kind_of block.insert ∷ block.key ∷ block.who ∷ []
 
--- how many words behind them may change: a generation's buckets
+-- how many words behind them may change: a generation's buckets, and an operation's result
 abbrev pub open_words : Published → ℕ
 open_words (Generation block) = 2 ^ block.exponent
 open_words (Row block) = 0
+open_words (Op block) = 1
 
 -- the number of a block's words
 abbrev pub block_len : Published → ℕ
@@ -53,3 +59,7 @@ row_address word = word / 2
 -- the bucket word of a mutable row
 abbrev pub mutable_word : ℕ → ℕ
 mutable_word row = 2 * row
+
+-- the words of a row of these keys without an operation
+abbrev pub row_words : List ℕ → List ℕ
+row_words keys = length keys ∷ 0 ∷ 0 ∷ keys

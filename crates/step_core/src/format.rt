@@ -21,3 +21,15 @@ pub const FIRST_KEY: u64 = 3;
 /// The factor of a key's spot: 2^64 divided by the golden ratio, as in multiplicative hashing
 /// (Knuth, The Art of Computer Programming, volume 3, section 6.4).
 pub const SPOT_FACTOR: u64 = 11400714819323198485;
+
+/// The greatest exponent of a generation.
+pub const MAX_EXPONENT: u32 = 24;
+
+/// The most keys that a round may be opened with.
+pub const MAX_KEYS: usize = 1 << 24;
+
+/// The most words of one draw.
+pub const MAX_DRAW: u64 = 1 << 28;
+
+/// The number of words of an operation.
+pub const OP_LEN: u64 = 5;

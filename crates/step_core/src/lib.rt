@@ -7,26 +7,40 @@
 //!
 //! `step` makes one atomic step and leaves and gives exactly what `after_step` and `gives` of
 //! `specs/Steps.antt` say, the table of docs/STEPS.md. `is_member` of `specs/Content.antt` says which
-//! keys the words hold: `opening` makes words with none, and `live_keys` lists them. The smallest use is
-//! the test `an_insert_is_a_draw_writes_and_a_swap`.
+//! keys the words hold: `opening` makes words with given keys, and `live_keys` lists them. The smallest
+//! uses are the tests `an_opening_with_five_keys_has_two_rows` and
+//! `an_insert_is_a_draw_writes_and_a_swap`.
 #![tactic(auto)]
 
+mod bucket_order;
+mod exponents;
 mod format;
 mod kinds;
 mod layout;
 mod openings;
 mod published;
 mod reading;
+mod spots;
 mod stepping;
+mod views;
 mod words;
 
-pub use format::{FIRST_ANNOUNCED, FIRST_BUCKET, FIRST_KEY, HEAD, NEXT, SPOT_FACTOR, TICKET};
+pub use exponents::opening_words;
+pub use format::{
+    FIRST_ANNOUNCED, FIRST_BUCKET, FIRST_KEY, HEAD, MAX_DRAW, MAX_EXPONENT, MAX_KEYS, NEXT, OP_LEN,
+    SPOT_FACTOR, TICKET,
+};
 pub use kinds::Step;
 pub use layout::{Layout, Plan};
 pub use openings::opening;
-pub use published::{GenerationBlock, Published, RowBlock};
-pub use reading::live_keys;
+pub use published::{GenerationBlock, OpBlock, Published, RowBlock};
+pub use reading::{exponent_of, live_keys};
+pub use spots::spot;
 pub use stepping::step;
+pub use views::{
+    AnnounceLoad, BucketLoad, Event, FixedCell, FullBucket, HeadLoad, Known, Mark, NilBucket,
+    OpenTurn, PassView, RoundFacts, Trial,
+};
 pub use words::Words;
 
 #[cfg(test)]

@@ -1,12 +1,15 @@
 use std::collections::LinkedList;
 
-/// A published block with all its content. No value of it is made: contracts say by it what the words hold.
+/// A published block with all its content. No value of it is made: contracts say by it what the words
+/// hold.
 #[derive(Drop)]
 pub enum Published {
     /// A generation.
     Generation(GenerationBlock),
     /// A row.
     Row(RowBlock),
+    /// An operation.
+    Op(OpBlock),
 }
 
 /// A generation: a table of buckets.
@@ -31,4 +34,19 @@ pub struct RowBlock {
     pub ans: u64,
     /// Its keys, rising.
     pub keys: LinkedList<u64>,
+}
+
+/// An operation: an insert or a remove that its pass announced, so that others can carry it out.
+#[derive(Drop)]
+pub struct OpBlock {
+    /// Its ticket, by which older operations are helped first.
+    pub ticket: u64,
+    /// Whether it inserts its key. Otherwise it removes the key.
+    pub insert: bool,
+    /// The key.
+    pub key: u64,
+    /// The number of the pass that announced it.
+    pub who: u64,
+    /// How many calls this pass had begun before this one. No word holds it.
+    pub serial: u64,
 }

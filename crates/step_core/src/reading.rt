@@ -1,36 +1,63 @@
-ghost use Rattle.std.specs.Prelude.{◌≡◌, ◌+◌, ◌≤◌, length, slice_index, IfOk};
+ghost use Rattle.std.specs.Prelude.{◌≡◌, ◌≤◌, ◌<◌, ◌^◌, IfOk};
 ghost use Rattle.std.specs.List.Sorted.{IsStrictlyIncreasing};
 ghost use Rattle.set_model.specs.Keys.{keys_set};
-ghost use Rattle.step_core.specs.Content.{HasMembers, row_keys};
+ghost use Rattle.step_core.specs.Content.{HasMembers, exponent_of, row_keys};
 ghost use Rattle.step_core.specs.Fits.{IsWellFormed};
-ghost use Rattle.step_core.specs.Single.{HasOneBucket};
-ghost use Rattle.step_core.specs.declared.format.TheConstants.{FIRST_KEY};
+ghost use Rattle.step_core.specs.Plain.{HasPlainRows, bucket_row, keys_before};
+ghost use Rattle.step_core.specs.declared.format.TheConstants.{MAX_EXPONENT};
 
+use crate::spots::bucket_count;
 use crate::{FIRST_BUCKET, FIRST_KEY, HEAD, Words};
 use set_model::NoMemory;
 use std::alloc::Global;
 
-/// The members of the words, each once, rising. So far of one generation with one bucket, whose row has
-/// no operation.
-#[tactic(auto, using(crate::proofs::LawSingle::one_row))]
+/// The members of the words, each once, rising. So far of one generation whose rows have no
+/// operations.
 pub fn live_keys(alloc: Global, words: &Words) -> Result<Vec<u64>, NoMemory>
     requires well_formed { IsWellFormed words.now }
-    requires single { HasOneBucket words.now }
+    requires plain { HasPlainRows words.now }
     ensures members { IfOk result (λ keys. HasMembers words.now (keys_set keys.items)) }
     ensures rising { IfOk result (λ keys. IsStrictlyIncreasing keys.items) }
 {
-    // With the words' number read, their places are known to fit 64 bits.
-    let _len = words.len();
-    let bucket = words.word(words.word(HEAD) + FIRST_BUCKET);
-    keys_of_row(alloc, words, bucket / 2)
+    let mut keys = collected(alloc, words)?;
+    keys.sort_unstable();
+    Ok(keys)
 }
 
-fn keys_of_row(alloc: Global, words: &Words, row: u64) -> Result<Vec<u64>, NoMemory>
-    requires { row + FIRST_KEY + slice_index words.now row ≤ length words.now }
-    ensures { IfOk result (λ keys. keys.items ≡ row_keys words.now row) }
+// The members, bucket by bucket.
+fn collected(alloc: Global, words: &Words) -> Result<Vec<u64>, NoMemory>
+    requires well_formed { IsWellFormed words.now }
+    requires plain { HasPlainRows words.now }
+    ensures { IfOk result (λ keys. keys.items ≡ keys_before words.now (2 ^ exponent_of words.now)) }
+{
+    let mut keys = Vec::new(alloc);
+    for bucket in 0..bucket_count(exponent_of(words)) {
+        keys.extend_from_slice(keys_of_bucket(words, bucket))?;
+    }
+    Ok(keys)
+}
+
+/// The exponent of the head generation.
+#[tactic(auto, using(crate::proofs::LawHead::head_shown))]
+pub fn exponent_of(words: &Words) -> u32
+    requires { IsWellFormed words.now }
+    ensures exponent { result ≡ exponent_of words.now }
+    ensures small { result ≤ MAX_EXPONENT }
 {
     let _len = words.len();
-    let first = row + FIRST_KEY;
-    let count = words.word(row);
-    Ok(Vec::from_slice(alloc, words.part(first, count))?)
+    words.word(words.word(HEAD)) as u32
+}
+
+// The keys of the row in the head's bucket.
+#[tactic(auto, using(crate::proofs::LawHead::head_shown, crate::proofs::LawLive::live_row_shown))]
+fn keys_of_bucket(words: &Words, bucket: u64) -> &[u64]
+    requires well_formed { IsWellFormed words.now }
+    requires plain { HasPlainRows words.now }
+    requires bucket { bucket < 2 ^ exponent_of words.now }
+    ensures { result.now ≡ row_keys words.now (bucket_row words.now bucket) }
+{
+    // With the words' number read, their places are known to fit 64 bits.
+    let _len = words.len();
+    let row = words.word(words.word(HEAD) + FIRST_BUCKET + bucket) / 2;
+    words.part(row + FIRST_KEY, words.word(row))
 }

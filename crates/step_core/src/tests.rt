@@ -1,8 +1,8 @@
-ghost use Rattle.std.specs.Prelude.{◌≡◌, ◌+◌, ◌≤◌, ◌∷◌, [], length, IfOk};
+ghost use Rattle.std.specs.Prelude.{◌≡◌, ◌+◌, ◌≤◌, ◌∷◌, [], length, replicate, IfOk};
 ghost use Rattle.step_core.specs.Drawn.{HasReplaced};
 ghost use Rattle.step_core.specs.Fits.{IsWellFormed};
 ghost use Rattle.step_core.specs.Format.{next_of};
-ghost use Rattle.step_core.specs.Openings.{opening_of};
+ghost use Rattle.step_core.specs.Plain.{HasPlainRows};
 ghost use Rattle.step_core.specs.Single.{HasOneBucket};
 
 use super::*;
@@ -10,12 +10,23 @@ use set_model::NoMemory;
 use std::alloc::Global;
 use std::test::Fail;
 
+#[tactic(auto, unfolding(crate::specs::Openings::exponent_from, crate::specs::Openings::rows_of))]
 fn open_for_one(alloc: Global) -> Result<Words, NoMemory>
-    ensures words { IfOk result (λ words. words ≡ opening_of 1 20) }
+    ensures words { IfOk result (λ words. words ≡ 4 ∷ 10 ∷ 0 ∷ 0 ∷ 0 ∷ 0 ∷ 14 ∷ 0 ∷ 0 ∷ 0 ∷ replicate 10 0) }
     ensures well_formed { IfOk result IsWellFormed }
     ensures single { IfOk result HasOneBucket }
 {
     opening(alloc, &Layout { seats: 1, cap: 20 }, &[])
+}
+
+#[tactic(auto, unfolding(crate::specs::Openings::exponent_from, crate::specs::Openings::rows_of))]
+fn open_with_five(alloc: Global) -> Result<Words, NoMemory>
+    ensures words { IfOk result (λ words. words ≡ 4 ∷ 19 ∷ 0 ∷ 0 ∷ 1 ∷ 0 ∷ 16 ∷ 26
+        ∷ 2 ∷ 0 ∷ 0 ∷ 2 ∷ 3 ∷ 3 ∷ 0 ∷ 0 ∷ 1 ∷ 4 ∷ 5 ∷ 0 ∷ []) }
+    ensures well_formed { IfOk result IsWellFormed }
+    ensures plain { IfOk result HasPlainRows }
+{
+    opening(alloc, &Layout { seats: 1, cap: 20 }, &[1, 2, 3, 4, 5])
 }
 
 // What a lone caller does to put a row of one key in the place of the only row.
@@ -70,6 +81,26 @@ fn an_opening_without_keys_has_no_members(rt: HostRuntime) -> Result<(), Fail> {
     assert_eq!(rt; words.word(1), 10);
     assert_eq!(rt; words.word(6), 14);
     assert_eq!(rt; live_keys(rt.alloc(), &words)?.as_slice(), [].as_slice());
+    Ok(())
+}
+
+// The example of docs/FORMAT.md, word by word: the keys 2 and 3 are in bucket 0, the others in bucket 1. An
+// opening with another exponent, or with a key in the next bucket, would fail here too.
+#[test]
+fn an_opening_with_five_keys_has_two_rows(rt: HostRuntime) -> Result<(), Fail> {
+    assert_eq!(rt; opening_words(1, &[1, 2, 3, 4, 5]), 19);
+    let words = open_with_five(rt.alloc())?;
+    let expected = [
+        4, 19, 0, 0, 1, 0, 16, 26, 2, 0, 0, 2, 3, 3, 0, 0, 1, 4, 5, 0,
+    ];
+    for at in 0..20 {
+        assert_eq!(rt; words.word(at), expected[at as usize], "word {at}");
+    }
+    assert_eq!(rt; exponent_of(&words), 1);
+    assert_eq!(rt;
+        live_keys(rt.alloc(), &words)?.as_slice(),
+        [1, 2, 3, 4, 5].as_slice()
+    );
     Ok(())
 }
 
@@ -135,5 +166,25 @@ fn refused_memory_is_answered_and_changes_no_word(rt: HostRuntime) -> Result<(),
     }
     assert_eq!(rt; words.word(6), 20);
     assert_eq!(rt; words.word(13), 7);
+    Ok(())
+}
+
+// The table of docs/FORMAT.md: a key, its spot, and its bucket among two and among four.
+#[test]
+fn keys_have_the_spots_of_the_table(rt: HostRuntime) -> Result<(), Fail> {
+    let cases = [
+        (0, 0, 0, 0),
+        (1, 2654435769, 1, 1),
+        (2, 1013904242, 0, 2),
+        (3, 3668340012, 0, 0),
+        (4, 2027808485, 1, 1),
+        (5, 387276959, 1, 3),
+        (18446744073709551615, 1640531526, 0, 2),
+    ];
+    for (key, at, of_two, of_four) in cases {
+        assert_eq!(rt; spot(key), at, "the spot of {key}");
+        assert_eq!(rt; spot(key) % 2, of_two, "the bucket of {key} among two");
+        assert_eq!(rt; spot(key) % 4, of_four, "the bucket of {key} among four");
+    }
     Ok(())
 }

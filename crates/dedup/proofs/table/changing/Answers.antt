@@ -2,6 +2,7 @@ use Rattle.std.proofs.Common.{◌≡◌, ℕ, List, [], ◌∷◌, ◌++◌, ◌
 use Rattle.std.proofs.lemmas.List.{take_more, take_all}
 use Rattle.set_model.specs.Keys.{keys_set}
 use Rattle.idfiles.specs.declared.id_record.IdRecord.{IdRecord}
+use Rattle.step_core.proofs.LawOpened.{opening_words-none}
 use Rattle.dedup.specs.Records.{AreChanging, ids_of}
 use Rattle.dedup.specs.Table.{HoldsFew}
 use Rattle.dedup.specs.declared.table.TheConstants.{END}
@@ -10,10 +11,15 @@ use Rattle.dedup.proofs.LawTable.{HoldsFew-opening, HoldsFew-more, HasRoom-few}
 use Rattle.dedup.proofs.table.changing.Goals as goal
 use Rattle.dedup.proofs.table.changing.Goals.{then-insert+in_ok-push, else-insert}
 
+-- the words have room for an opening
+pub opening-requires-clause-fits : goal.opening-requires-clause-fits
+opening-requires-clause-fits c = omega (arith, opening_words-none 1)
+
+-- an opening holds nothing
 pub loop-record-init : goal.loop-record-init
 loop-record-init c =
     let opened = c.in_ok-words.ensures in
-    (HoldsFew-opening c.in_ok-words.words END (omega arith) opened.words opened.well_formed opened.single opened.members, subst (AreChanging []) (sym c.new-firsts.ensures.items) AreChanging-none)
+    (HoldsFew-opening c.in_ok-words.words END (omega (arith, opening_words-none 1)) opened.words opened.well_formed opened.members, subst (AreChanging []) (sym c.new-firsts.ensures.items) AreChanging-none)
 
 pub insert-requires : goal.insert-requires
 insert-requires c =

@@ -1,25 +1,41 @@
-use Rattle.std.specs.FinSet as set
+use Rattle.set_model.specs.Keys.{keys_set}
 use Rattle.step_core.specs.Content.{HasMembers}
-use Rattle.step_core.specs.Fits.{IsWellFormed}
-use Rattle.step_core.specs.Openings.{opening_of}
-use Rattle.step_core.specs.Single.{HasOneBucket}
-use Rattle.step_core.proofs.LawOpening.{IfOk-only, opening_well_formed, opening_single, opening_members}
+use Rattle.step_core.specs.Fits.{BeginsRound, IsWellFormed}
+use Rattle.step_core.specs.Openings.{opening_facts, opening_of}
+use Rattle.step_core.specs.Plain.{HasPlainRows}
+use Rattle.step_core.proofs.LawBegins.{opening_begins}
+use Rattle.step_core.proofs.LawOpened.{IfOk-only, opening_is_table, opening_members}
+use Rattle.step_core.proofs.LawTableFits.{table_well_formed}
+use Rattle.step_core.proofs.LawTableMembers.{table_plain}
 use Rattle.step_core.proofs.openings.opening.Goals as goal
 
 pub returns-clause-well_formed : goal.returns-clause-well_formed
 returns-clause-well_formed c =
     let layout = c.args.layout.now in
-    IfOk-only IsWellFormed (opening_of layout.seats layout.cap) c.empty_opening.result c.empty_opening.ensures
-    (opening_well_formed layout.seats layout.cap c.requires.fits)
+    let keys = c.args.keys.now in
+    let words = opening_of layout.seats layout.cap keys in
+    IfOk-only IsWellFormed words c.laid_out.result c.laid_out.ensures
+    (table_well_formed (opening_is_table layout.seats layout.cap keys c.requires.rising c.requires.few c.requires.fits))
 
-pub returns-clause-single : goal.returns-clause-single
-returns-clause-single c =
+pub returns-clause-plain : goal.returns-clause-plain
+returns-clause-plain c =
     let layout = c.args.layout.now in
-    IfOk-only HasOneBucket (opening_of layout.seats layout.cap) c.empty_opening.result c.empty_opening.ensures
-    (opening_single layout.seats layout.cap c.requires.fits)
+    let keys = c.args.keys.now in
+    let words = opening_of layout.seats layout.cap keys in
+    IfOk-only HasPlainRows words c.laid_out.result c.laid_out.ensures
+    (table_plain (opening_is_table layout.seats layout.cap keys c.requires.rising c.requires.few c.requires.fits))
 
 pub returns-clause-members : goal.returns-clause-members
 returns-clause-members c =
     let layout = c.args.layout.now in
-    IfOk-only (λ words. HasMembers words set.empty) (opening_of layout.seats layout.cap) c.empty_opening.result c.empty_opening.ensures
-    (opening_members layout.seats layout.cap c.requires.fits)
+    let keys = c.args.keys.now in
+    IfOk-only (λ words. HasMembers words (keys_set keys)) (opening_of layout.seats layout.cap keys) c.laid_out.result c.laid_out.ensures
+    (opening_members layout.seats layout.cap keys c.requires.rising c.requires.few c.requires.fits)
+
+pub returns-clause-begins : goal.returns-clause-begins
+returns-clause-begins c =
+    let layout = c.args.layout.now in
+    let keys = c.args.keys.now in
+    IfOk-only (BeginsRound (opening_facts layout.seats layout.cap keys)) (opening_of layout.seats layout.cap keys)
+    c.laid_out.result c.laid_out.ensures
+    (opening_begins layout.seats layout.cap keys c.requires.rising c.requires.few c.requires.fits)

@@ -86,7 +86,7 @@ fn run_on(
 
 #[test]
 fn prints_each_id_once(rt: HostRuntime) -> Result<(), Fail> {
-    let cases: [(&[&str], &[u8], &[u8], &[u8]); 9] = [
+    let cases: [(&[&str], &[u8], &[u8], &[u8]); 11] = [
         (&IDS, b"3\n1\n3\n", b"", b"1\n3\n"),
         (&IDS, b"", b"", b""),
         (&IDS, b"007\n \t\n\n7\r\n9", b"", b"7\n9\n"),
@@ -97,6 +97,18 @@ fn prints_each_id_once(rt: HostRuntime) -> Result<(), Fail> {
             b"0\n18446744073709551615\n",
         ),
         (&["dedup", "f"], b"5\n5\n7\n", b"", b"5 1:1\n7 1:3\n"),
+        (
+            &["dedup", "--workers", "1", "f"],
+            b"1\n \t\n2",
+            b"",
+            b"1 1:1\n2 1:3\n",
+        ),
+        (
+            &["dedup", "--workers", "1", "f", "g"],
+            b"5\n5\n7\n",
+            b"007\r\n9",
+            b"5 1:1\n7 1:3\n9 2:2\n",
+        ),
         (
             &["dedup", "f", "g"],
             b"9\n\n5\n",
@@ -135,15 +147,15 @@ fn prints_each_id_once(rt: HostRuntime) -> Result<(), Fail> {
 fn the_first_fault_of_the_files_is_told(rt: HostRuntime) -> Result<(), Fail> {
     let both = ["dedup", "f", "g"];
     let cases: [(&[&str], &[u8], &[u8], u8, &[u8]); 7] = [
-        (&both, b"1\n+5\n", b"x\n", 3, b"dedup: bad line 1:2\n"),
-        (&both, b"1\n2\n", b"1\n\n1 1\n", 3, b"dedup: bad line 2:3\n"),
         (
-            &IDS,
-            b"18446744073709551616\n",
+            &["dedup", "f"],
+            b"1\n18446744073709551616\n",
             b"",
             3,
-            b"dedup: bad line 1:1\n",
+            b"dedup: bad line 1:2\n",
         ),
+        (&both, b"1\n2\n", b"1\n\n1 1\n", 3, b"dedup: bad line 2:3\n"),
+        (&both, b"+5\n", b"x\n", 3, b"dedup: bad line 1:1\n"),
         (&IDS, b"7\r \n", b"", 3, b"dedup: bad line 1:1\n"),
         (
             &["dedup", "h", "f"],
@@ -241,11 +253,14 @@ fn a_file_has_at_most_2_to_the_30_bytes(rt: HostRuntime) -> Result<(), Fail> {
 
 #[test]
 fn words_that_are_not_the_command_are_bad(rt: HostRuntime) -> Result<(), Fail> {
-    let cases: [&[&str]; 4] = [
+    let cases: [&[&str]; 7] = [
         &[],
         &["dedup"],
         &["dedup", "--help"],
-        &["dedup", "--workers", "2", "f"],
+        &["dedup", "--workers", "0", "f"],
+        &["dedup", "--make", "5:1", "f"],
+        &["dedup", "--room", "x", "f"],
+        &["dedup", "--calls", "--list", "ids", "f"],
     ];
     for words in cases {
         let outcome = run_on(&rt, rt.alloc(), words, b"1\n", b"", &NONE)?;

@@ -30,16 +30,16 @@ view_at facts first (suc count) (suc pass) view there =
     view_at facts (first + 1) count pass view there
     ∙ ap (fresh_view facts) (let same : first + 1 + pass ≡ first + suc pass = omega arith in same)
 
-fresh_is : (facts : RoundFacts) (pass : ℕ) (view : PassView) → get_elem? (fresh_views facts) pass ≡ some view → view ≡ fresh_view facts pass
+pub fresh_is : (facts : RoundFacts) (pass : ℕ) (view : PassView) → get_elem? (fresh_views facts) pass ≡ some view → view ≡ fresh_view facts pass
 fresh_is facts pass view there =
     view_at facts 0 facts.seats pass view there ∙ ap (fresh_view facts) (let same : 0 + pass ≡ pass = omega arith in same)
 
 -- what holds of each fresh view holds of each
-each_fresh : (P : ℕ → PassView → Type 0) (facts : RoundFacts) → ((pass : ℕ) → P pass (fresh_view facts pass)) → Each P (fresh_views facts)
+pub each_fresh : (P : ℕ → PassView → Type 0) (facts : RoundFacts) → ((pass : ℕ) → P pass (fresh_view facts pass)) → Each P (fresh_views facts)
 each_fresh P facts holds pass view there = subst (P pass) (sym (fresh_is facts pass view there)) (holds pass)
 
 -- they count for nothing
-nothing_counted : (f : PassView → ℕ) (facts : RoundFacts) → ((number : ℕ) → f (fresh_view facts number) ≡ 0)
+pub nothing_counted : (f : PassView → ℕ) (facts : RoundFacts) → ((number : ℕ) → f (fresh_view facts number) ≡ 0)
     → (first count : ℕ) → sum_by f (map (fresh_view facts) (range_with_len first count)) ≡ 0
 nothing_counted f facts none first zero = refl
 nothing_counted f facts none first (suc count) =

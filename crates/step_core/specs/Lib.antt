@@ -9,3 +9,4 @@ pub mod Rising
 pub mod Single
 pub mod States
 pub mod Steps
+pub mod Plans

@@ -33,3 +33,12 @@ pub const MAX_DRAW: u64 = 1 << 28;
 
 /// The number of words of an operation.
 pub const OP_LEN: u64 = 5;
+
+/// The most passes of a round.
+pub const MAX_SEATS: u32 = 64;
+
+/// The most words of a round, opening and room.
+pub const MAX_WORDS: u64 = 1 << 28;
+
+/// The most turns of a plan, tried or helped.
+pub const MAX_TURNS: u32 = 1_000_000;

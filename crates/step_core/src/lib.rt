@@ -27,8 +27,8 @@ mod words;
 
 pub use exponents::opening_words;
 pub use format::{
-    FIRST_ANNOUNCED, FIRST_BUCKET, FIRST_KEY, HEAD, MAX_DRAW, MAX_EXPONENT, MAX_KEYS, NEXT, OP_LEN,
-    SPOT_FACTOR, TICKET,
+    FIRST_ANNOUNCED, FIRST_BUCKET, FIRST_KEY, HEAD, MAX_DRAW, MAX_EXPONENT, MAX_KEYS, MAX_SEATS,
+    MAX_TURNS, MAX_WORDS, NEXT, OP_LEN, SPOT_FACTOR, TICKET,
 };
 pub use kinds::Step;
 pub use layout::{Layout, Plan};

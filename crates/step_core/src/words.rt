@@ -16,7 +16,7 @@ impl Model for Words {
 
 impl Words {
     /// These words. Takes no memory.
-    pub(crate) fn from_vec(words: Vec<u64>) -> Self
+    pub fn from_vec(words: Vec<u64>) -> Self
         ensures { result ≡ words.items }
     {
         Words { words }
@@ -35,6 +35,13 @@ impl Words {
         ensures { result ≡ slice_index self.now at }
     {
         self.words[at as usize]
+    }
+
+    /// All of them.
+    pub fn as_slice(&self) -> &[u64]
+        ensures { result.now ≡ self.now }
+    {
+        self.words.as_slice()
     }
 
     /// The words of a part that begins at a place and has a length.

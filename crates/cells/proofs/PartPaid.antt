@@ -1,0 +1,25 @@
+-- Lost turns are paid still, where a pass has lost and won as much and has the same turn open.
+use Rattle.std.proofs.Common.{◌≡◌, ℕ, ◌+◌, ◌<◌, sym, ◌∙◌, arith}
+use Rattle.std.proofs.lemmas.List.Elements.{All-weaker}
+use Rattle.step_core.specs.declared.views.OpenTurn.{OpenTurn}
+use Rattle.step_core.specs.declared.views.PassView.{PassView}
+use Rattle.cells.specs.Paid.{IsPaid, IsPaidTurn, PaysLoad}
+
+module _ (wins head : ℕ) (cells : ℕ → ℕ → ℕ) (old new : PassView) (lost : new.lost ≡ old.lost) (won : new.won ≡ old.won) where
+  -- an open turn is paid still
+  pub paid_turn_same : (turn : OpenTurn) → IsPaidTurn wins head cells old turn → IsPaidTurn wins head cells new turn
+  paid_turn_same turn was = record {
+    before = omega (arith, was.before);
+    seen = omega (arith, was.seen);
+    moved = λ apart. let overtaken : turn.seen + old.won < wins = was.moved apart in omega arith;
+    loads = All-weaker (PaysLoad wins cells old turn) (PaysLoad wins cells new turn)
+        (λ load pays same some mutable apart.
+        let overtaken : turn.seen + old.won < wins = pays same some mutable apart in omega arith)
+        turn.loads was.loads;
+  }
+
+  -- what is paid depends on the turns lost, the exchanges won and the open turn alone
+  pub paid_same : new.turn ≡ old.turn → IsPaid wins head cells old → IsPaid wins head cells new
+  paid_same turn paid =
+      let before = paid.lost in
+      record { lost = omega arith; turn = λ open_turn is. paid_turn_same open_turn (paid.turn open_turn (sym turn ∙ is)) }

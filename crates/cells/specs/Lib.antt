@@ -1,0 +1,14 @@
+pub mod Known
+pub mod Past
+pub mod Paid
+pub mod Invariant
+pub mod Seats
+pub mod Steps
+pub mod Moves
+pub mod Tokens
+pub mod Ends
+pub mod Modeled
+pub mod Fronts
+pub mod Cutting
+pub mod Frames
+pub mod Notes

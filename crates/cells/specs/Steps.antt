@@ -1,0 +1,192 @@
+-- What each kind of step tells its pass: the view after it, as a function of the view before.
+use Rattle.std.specs.Prelude.{◌≡◌, ◌≢◌, ℕ, ◌+◌, ◌%◌, ◌<◌, ◌≤◌, ◌==◌, ◌&&◌, ◌⊎◌, Bool, false, nat_eq, if◌then◌else◌, List, [], ◌∷◌, ◌++◌, length, All, take, slice_index, Option, Some, None}
+use mathlib.Core.List.{IsPrefix}
+use Rattle.set_model.specs.declared.entry.Entry.{Entry}
+use Rattle.arena.specs.Hands.{words_at, drawn_block, written}
+use Rattle.step_core.specs.Format.{IsNil, row_address, sealed_words}
+use Rattle.step_core.specs.declared.published.Published.{Published}
+use Rattle.step_core.specs.declared.published.Published.TheVariants.{Generation, Row, Op}
+use Rattle.step_core.specs.declared.published.GenerationBlock.{GenerationBlock}
+use Rattle.step_core.specs.declared.published.RowBlock.{RowBlock}
+use Rattle.step_core.specs.declared.published.OpBlock.{OpBlock}
+use Rattle.step_core.specs.declared.views.Known.{Known}
+use Rattle.step_core.specs.declared.views.BucketLoad.{BucketLoad}
+use Rattle.step_core.specs.declared.views.FullBucket.{FullBucket}
+use Rattle.step_core.specs.declared.views.OpenTurn.{OpenTurn}
+use Rattle.step_core.specs.declared.views.PassView.{PassView}
+use Rattle.cells.specs.Known.{known_block, link_of, generation_at, bucket_at, IsSealedWord, IsBucketWord}
+use Rattle.cells.specs.Past.{longer}
+
+-- Loading the head: the front is the history, the head generation is known, and a turn opens.
+abbrev pub view_after_load_head : ℕ → List Entry → ℕ → GenerationBlock → PassView → PassView
+view_after_load_head head history seen generation view = record view {
+  front = history;
+  known = known_block head (Generation generation) ∷ view.known;
+  turn = Some (record { head = head; seen = seen; loads = [] });
+}
+
+-- what loading the head tells
+pub record LoadsHead (old : PassView) (word : ℕ) (new : PassView) : Type 0 where
+  pub history : List Entry
+  pub seen : ℕ
+  pub generation : GenerationBlock
+  pub grows : IsPrefix old.front history
+  pub view : new ≡ view_after_load_head word history seen generation old
+
+-- Loading a sealed word: what it names may be known, and the front may reach further.
+abbrev pub view_after_load_sealed : ℕ → ℕ → List Known → List Entry → PassView → PassView
+view_after_load_sealed place word learned front view = record view {
+  front = front;
+  known = learned ++ view.known;
+}
+
+-- the word is that of every known block that has the place
+abbrev pub ReadsSealed : PassView → ℕ → ℕ → Type 0
+ReadsSealed view place word = (at k : ℕ) (block : Published) → IsSealedWord view place at k block
+    → word ≡ slice_index (sealed_words block) k
+
+-- a row's operation word makes the operation known, if it isn't 0
+abbrev pub LearnsOp : PassView → ℕ → List Known → Type 0
+LearnsOp view place learned = (at : ℕ) (row : RowBlock) → IsSealedWord view place at 1 (Row row)
+    → row.op ≢ 0 → (op : OpBlock) × (learned ≡ known_block row.op (Op op) ∷ [])
+
+-- a generation's predecessor word makes the predecessor known, if it isn't 0
+abbrev pub LearnsPredecessor : PassView → ℕ → List Known → Type 0
+LearnsPredecessor view place learned =
+    (at : ℕ) (generation : GenerationBlock) → IsSealedWord view place at 1 (Generation generation)
+    → generation.predecessor ≢ 0
+    → (other : GenerationBlock)
+    × (learned ≡ known_block generation.predecessor (Generation other) ∷ [])
+
+-- a word that names nothing makes nothing known
+abbrev pub LearnsNothing : PassView → ℕ → List Known → Type 0
+LearnsNothing view place learned =
+    (at k : ℕ) (block : Published) → IsSealedWord view place at k block
+    → (k ≢ 1) ⊎ (link_of block ≡ 0) → learned ≡ []
+
+-- no mark of the view is on the row at the address
+abbrev pub IsUnmarked : PassView → ℕ → Type 0
+IsUnmarked view at = All (λ mark. mark.row ≢ at) view.marks
+
+-- only the second word of a marked row may let the front reach further
+abbrev pub StaysAtFront : PassView → ℕ → List Entry → Type 0
+StaysAtFront view place front =
+    (at k : ℕ) (block : Published) → IsSealedWord view place at k block
+    → (k ≢ 1) ⊎ IsUnmarked view at → front ≡ view.front
+
+-- what loading a sealed word tells
+pub record LoadsSealed (place : ℕ) (old : PassView) (word : ℕ) (new : PassView) : Type 0 where
+  pub learned : List Known
+  pub front : List Entry
+  pub reads : ReadsSealed old place word
+  pub op : LearnsOp old place learned
+  pub predecessor : LearnsPredecessor old place learned
+  pub nothing : LearnsNothing old place learned
+  pub stays : StaysAtFront old place front
+  pub grows : IsPrefix old.front front
+  pub view : new ≡ view_after_load_sealed place word learned front old
+
+-- Loading a bucket. A frozen bucket's row stays, so the front needs not reach further.
+abbrev pub is_nil : ℕ → Bool
+is_nil word = word == 0
+
+-- a frozen bucket's word is odd
+abbrev pub is_frozen : ℕ → Bool
+is_frozen word = word % 2 == 1
+
+-- the load that the open turn notes
+abbrev pub bucket_load : PassView → ℕ → ℕ → BucketLoad
+bucket_load view place word =
+    record { at = generation_at view.known place; bucket = bucket_at view.known place; word = word }
+
+-- the bucket, as one that isn't nil
+abbrev pub full_bucket : PassView → ℕ → FullBucket
+full_bucket view place =
+    record { at = generation_at view.known place; bucket = bucket_at view.known place }
+
+-- a frozen bucket of the head that the open turn loaded loses the turn
+abbrev pub loses_turn : PassView → ℕ → ℕ → Option OpenTurn → Bool
+loses_turn view place word None = false
+loses_turn view place word (Some turn) =
+    is_frozen word && nat_eq (generation_at view.known place) turn.head
+
+-- the turn after the load: closed where it was lost, and else with one load more
+abbrev pub turn_after_load : BucketLoad → Bool → Option OpenTurn → Option OpenTurn
+turn_after_load load loses None = None
+turn_after_load load loses (Some turn) =
+    if loses then None
+    else Some (record { head = turn.head; seen = turn.seen; loads = load ∷ turn.loads })
+
+-- the front is the history but where the bucket is frozen; unless the bucket is nil, that is known
+-- and so is its row; and the open turn has one load more or is lost
+abbrev pub view_after_load_bucket : ℕ → ℕ → List Entry → RowBlock → PassView → PassView
+view_after_load_bucket place word history row view = record view {
+  front = if is_frozen word then view.front else history;
+  known = if is_nil word then view.known else known_block (row_address word) (Row row) ∷ view.known;
+  full = if is_nil word then view.full else full_bucket view place ∷ view.full;
+  lost = if loses_turn view place word view.turn then view.lost + 1 else view.lost;
+  turn = turn_after_load (bucket_load view place word) (loses_turn view place word view.turn)
+      view.turn;
+}
+
+-- a bucket that isn't nil names a row of its own
+abbrev pub IsAtHome : PassView → ℕ → ℕ → RowBlock → Type 0
+IsAtHome view place word row = (at bucket : ℕ) (generation : GenerationBlock)
+    → IsBucketWord view place at bucket generation → ¬ IsNil word
+    → (row.exponent ≡ generation.exponent) × (row.bucket ≡ bucket)
+
+-- what loading a bucket tells
+pub record LoadsBucket (place : ℕ) (old : PassView) (word : ℕ) (new : PassView) : Type 0 where
+  pub history : List Entry
+  pub row : RowBlock
+  pub grows : IsPrefix old.front history
+  pub home : IsAtHome old place word row
+  pub view : new ≡ view_after_load_bucket place word history row old
+
+-- A draw within the arena: a block of zeros in hand.
+abbrev pub view_after_draw : ℕ → ℕ → PassView → PassView
+view_after_draw at len view =
+    record view { hands = drawn_block at len ∷ view.hands; drawn = view.drawn + len }
+
+-- A draw past the end: the pass is spent.
+abbrev pub view_after_overdraw : ℕ → ℕ → PassView → PassView
+view_after_overdraw at len view = record view { drawn = view.drawn + len; spent = Some at }
+
+-- what a draw tells that gave a block
+pub record Draws (old : PassView) (at len : ℕ) (new : PassView) : Type 0 where
+  pub unspent : old.spent ≡ None
+  pub within : at + len ≤ old.facts.cap
+  -- no block in hand begins there
+  pub fresh : words_at old.hands at ≡ []
+  pub view : new ≡ view_after_draw at len old
+
+-- what a draw tells that passed the end
+pub record Overdraws (old : PassView) (at len : ℕ) (new : PassView) : Type 0 where
+  pub past : old.facts.cap < at + len
+  pub view : new ≡ view_after_overdraw at len old
+
+-- what a refused draw leaves: a spent pass draws no more, and else this draw passed the end
+pub record IsFull (old : PassView) (len : ℕ) (new : PassView) : Type 0 where
+  pub spent : old.spent ≢ None → new ≡ old
+  pub overdrew : old.spent ≡ None → (at : ℕ) × Overdraws old at len new
+
+-- A write into a block in hand.
+abbrev pub view_after_write : ℕ → ℕ → PassView → PassView
+view_after_write place value view = record view { hands = written place value view.hands }
+
+-- These words were written into the block in hand at the address, from the offset on, and nothing
+-- else changed. So told, writes add up: what the first wrote and then the second is what both
+-- wrote.
+pub record Writes (at offset : ℕ) (values : List ℕ) (old new : PassView) : Type 0 where
+  pub only : new ≡ record old { hands = new.hands }
+  pub long : length (words_at new.hands at) ≡ length (words_at old.hands at)
+  pub words : take (offset + length values) (words_at new.hands at)
+      ≡ take offset (words_at old.hands at) ++ values
+  pub others : (other : ℕ) → other ≢ at → words_at new.hands other ≡ words_at old.hands other
+
+-- What a note tells the pass that took it: its front is the longer of its own and the note's, which
+-- begins with both, and nothing else changed.
+pub record Learns (old : PassView) (front : List Entry) (new : PassView) : Type 0 where
+  pub own : IsPrefix old.front new.front
+  pub other : IsPrefix front new.front
+  pub view : new ≡ record old { front = longer old.front front }

@@ -1,0 +1,2 @@
+pub mod LawReads
+pub mod LawFound

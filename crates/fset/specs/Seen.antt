@@ -1,0 +1,34 @@
+-- A row as a pass read it.
+use Rattle.std.specs.Prelude.{◌≡◌, ℕ, List, [], length}
+use Rattle.step_core.specs.declared.views.Known.{Known}
+use Rattle.step_core.specs.declared.views.PassView.{PassView}
+use Rattle.cells.specs.Known.{KnowsRow, row_at, keys_at}
+use Rattle.cells.specs.Steps.{IsUnmarked}
+use Rattle.fset.specs.declared.seen.Seen.{Seen}
+use Rattle.fset.specs.Frames.{Reads}
+
+-- the pass knows a row at the address
+abbrev pub KnowsRowAt : PassView → ℕ → Type 0
+KnowsRowAt view at = KnowsRow view at (row_at view.known at)
+
+-- The words that were read are those of the row that the pass knows there. That stays so while the
+-- pass learns more.
+pub record IsSeen (view : PassView) (seen : Seen) : Type 0 where
+  pub known : KnowsRowAt view seen.at
+  pub count : seen.count ≡ length (keys_at view seen.at)
+  pub op : seen.op ≡ (row_at view.known seen.at).op
+  -- a row without an operation has no result
+  pub result : seen.op ≡ 0 → seen.result ≡ 0
+
+-- what reading a known row tells
+pub record ReadsRow (at : ℕ) (old : PassView) (seen : Seen) (new : PassView) : Type 0 where
+  pub place : seen.at ≡ at
+  -- it is the row that was known
+  pub same : row_at new.known at ≡ row_at old.known at
+  pub agrees : IsSeen new seen
+  pub learned : List Known
+  pub reads : Reads learned old new
+  -- a row without an operation makes nothing known
+  pub nothing : seen.op ≡ 0 → learned ≡ []
+  -- and the front stays where the pass has no mark on the row
+  pub unmarked : IsUnmarked old at → new.front ≡ old.front

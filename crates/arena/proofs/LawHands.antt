@@ -21,19 +21,21 @@ words_at-written_here hands at k value =
     here ∙ ap (λ i. cond (leb at (at + k)) (set (words_at hands at) i value) (words_at hands at)) offset
     ∙ grind (arith, nat_tests)
 
--- the block that was drawn, and the others
+-- a block fresh from a draw is all zeros,
 pub words_at-drawn_same : (hands : List Held) (at count : ℕ) → words_at (drawn_block at count ∷ hands) at ≡ replicate count 0
 words_at-drawn_same hands at count = grind (arith, nat_tests)
 
+-- and the others are as they were
 pub words_at-drawn_other : (hands : List Held) (at count other : ℕ) → other ≢ at
     → words_at (drawn_block at count ∷ hands) other ≡ words_at hands other
 words_at-drawn_other hands at count other apart = grind (arith, nat_tests)
 
--- nothing of the block that was given up is left, and the others are as they were
+-- nothing of the block that was given up is left,
 pub words_at-without_same : (hands : List Held) (at : ℕ) → words_at (without at hands) at ≡ []
 words_at-without_same [] at = refl
 words_at-without_same (held ∷ hands) at = let behind = words_at-without_same hands at in grind (arith, nat_tests)
 
+-- and the others are as they were
 pub words_at-without_other : (hands : List Held) (at other : ℕ) → other ≢ at
     → words_at (without at hands) other ≡ words_at hands other
 words_at-without_other [] at other apart = refl

@@ -22,11 +22,12 @@ module _ (owners : ℕ → Owner) (at count : ℕ) (owner : ℕ → Owner) where
       → (a : ℕ) → owners a ≢ old → claimed owners at count owner a ≡ owners a
   claimed-else old range a other = claimed-out a (λ from to. other (grind (arith, range (a - at))))
 
--- a published block's words are sealed, and those behind them its cells
+-- a published block's first words are sealed,
 pub block_owner-sealed : (at count k : ℕ) → k < count → block_owner at count k ≡ sealed at
 unfolding block_owner
 block_owner-sealed at count k lt = grind (arith, nat_tests)
 
+-- and those behind them are its cells
 pub block_owner-cell : (at count k : ℕ) → block_owner at count (count + k) ≡ cell at k
 unfolding block_owner
 block_owner-cell at count k = grind (arith, nat_tests)

@@ -78,6 +78,7 @@ no_hands : (holder : ℕ) (view : List Held) → get_elem? ([] ∷ []) holder �
 no_hands zero view is_view = sym (some-injective [] view is_view)
 no_hands (suc holder) view is_view = absurd (some-ne-none view (sym is_view))
 
+-- the opening shows its state
 pub opening_shows : OpeningShows
 opening_shows = record {
   size = refl;
@@ -111,12 +112,14 @@ publish_shows = publish_keeps (λ block. block) (λ _. 1) (λ hands. hands) writ
     (record { in_hand = write_shows.hands 0 (written 6 5 small_hand) refl 6; some_word = omega arith })
     (record { old = written 6 5 small_hand; is_view = refl; fronts = KeepsFronts-refl [] })
 
+-- the last words show the last state
 pub ending_shows : EndingShows
 ending_shows =
     let is_block = updated-same small_write.blocks 6 (Some (5 ∷ [])) in
     head_keeps (λ block. block) (λ _. 1) (λ hands. hands)
     (cell_keeps (λ block. block) (λ _. 1) (λ hands. hands) publish_shows 6 0 3 (5 ∷ []) is_block (omega arith)) 6
 
+-- the sealed word 8 is not the 7 that the state says
 pub damage_shows_not : DamageShowsNot
 damage_shows_not laid =
     let stands = laid.blocks 4 (7 ∷ []) (updated-same (λ _. None) 4 (Some (7 ∷ []))) in

@@ -31,6 +31,7 @@ pub record IsFront (front whole : List ℕ) : Type 0 where
   pub short : length front ≤ length whole
   pub same : (k : ℕ) → k < length front → slice_index front k ≡ slice_index whole k
 
--- each block in hand is the front of one that was: what is behind it, or a whole block, may be given up
+-- each block in hand is the front of one that was: what is behind it, or a whole block, may be
+-- given up
 pub record KeepsFronts (old new : List Held) : Type 0 where
   pub fronts : (at : ℕ) → IsFront (words_at new at) (words_at old at)

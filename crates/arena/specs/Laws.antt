@@ -1,5 +1,5 @@
--- What the memory layer promises of words that show a state: each move keeps them together, and blocks lie
--- inside the arena and apart.
+-- What the memory layer promises of words that show a state: each move keeps them together, and
+-- blocks lie inside the arena and apart.
 use Rattle.std.specs.Prelude.{◌≡◌, ℕ, ◌+◌, ◌<◌, ◌≤◌, List, ◌∷◌, length, slice_index, slice_set, Option, Some, None}
 use mathlib.Core.Option.{some}
 use lib.ListN.{get_elem?}
@@ -11,7 +11,8 @@ use Rattle.arena.specs.States.{ArenaState}
 use Rattle.arena.specs.LaidOut.{base, block_size, published_words, IsRange, IsLaidOut}
 use Rattle.arena.specs.Moves.{with_view, after_draw, with_next, with_ticket, with_head, with_announced, with_cell, after_publish}
 
--- the holder's view becomes `new`, whose blocks in hand are fronts of what `change` makes of those before
+-- the holder's view becomes `new`, whose blocks in hand are fronts of what `change` makes of those
+-- before
 pub record ChangesView {V : Type 0} (hands_of : V → List Held) (views : List V) (holder : ℕ)
     (change : List Held → List Held) (new : V) : Type 0 where
   pub old : V
@@ -19,7 +20,8 @@ pub record ChangesView {V : Type 0} (hands_of : V → List Held) (views : List V
   pub fronts : KeepsFronts (change (hands_of old)) (hands_of new)
 
 -- the place is a word of the block that the holder has in hand at `at`
-pub record IsWordInHand {V : Type 0} (hands_of : V → List Held) (views : List V) (holder at place : ℕ) : Type 0 where
+pub record IsWordInHand {V : Type 0} (hands_of : V → List Held) (views : List V)
+    (holder at place : ℕ) : Type 0 where
   pub view : V
   pub is_view : get_elem? views holder ≡ some view
   pub begun : at ≤ place
@@ -33,9 +35,12 @@ module _ {B : Type 0} (sealed_words : B → List ℕ) (open_words : B → ℕ) w
     pub begun : at ≤ place
     pub within : place < at + block_size sealed_words open_words block
 
-  -- the holder may publish the block at `at`: it has the block's words in hand there, and there is one
-  pub record IsReady (words : List ℕ) (owners : ℕ → Owner) (holder at : ℕ) (block : B) : Type 0 where
-    pub in_hand : IsRange words owners at (published_words sealed_words open_words block) (hand holder at)
+  -- the holder may publish the block at `at`: it has the block's words in hand there, and there is
+  -- one
+  pub record IsReady (words : List ℕ) (owners : ℕ → Owner) (holder at : ℕ) (block : B)
+      : Type 0 where
+    pub in_hand : IsRange words owners at (published_words sealed_words open_words block)
+        (hand holder at)
     pub some_word : 0 < block_size sealed_words open_words block
 
 -- the place was drawn, behind the fixed words and within the arena
@@ -48,7 +53,8 @@ module _ {B V : Type 0} (sealed_words : B → List ℕ) (open_words : B → ℕ)
     (cap seats : ℕ) (words : List ℕ) (state : ArenaState B V) where
   -- these words show that state, in an arena of this size
   abbrev pub Shows : List ℕ → ArenaState B V → Type 0
-  Shows new_words new_state = IsLaidOut sealed_words open_words hands_of cap seats new_words new_state
+  Shows new_words new_state =
+      IsLaidOut sealed_words open_words hands_of cap seats new_words new_state
 
   -- a word that is read, or that an exchange finds to be another, is as it was
   abbrev pub LoadKeeps : Type 0
@@ -67,7 +73,8 @@ module _ {B V : Type 0} (sealed_words : B → List ℕ) (open_words : B → ℕ)
 
   -- a draw past the end raises the next place, and nobody owns what was drawn
   abbrev pub OverdrawKeeps : Type 0
-  OverdrawKeeps = (next : ℕ) → state.next ≤ next → Shows (slice_set words NEXT next) (with_next state next)
+  OverdrawKeeps = (next : ℕ) → state.next ≤ next
+      → Shows (slice_set words NEXT next) (with_next state next)
 
   -- a word in hand is written
   abbrev pub WriteKeeps : Type 0
@@ -85,7 +92,8 @@ module _ {B V : Type 0} (sealed_words : B → List ℕ) (open_words : B → ℕ)
   -- a cell of a published block is set
   abbrev pub CellKeeps : Type 0
   CellKeeps = (at k value : ℕ) (block : B) → state.blocks at ≡ Some block → k < open_words block
-      → Shows (slice_set words (at + length (sealed_words block) + k) value) (with_cell state at k value)
+      → Shows (slice_set words (at + length (sealed_words block) + k) value)
+      (with_cell state at k value)
 
   -- the head is set
   abbrev pub HeadKeeps : Type 0
@@ -112,17 +120,21 @@ module _ {B V : Type 0} (sealed_words : B → List ℕ) (open_words : B → ℕ)
 
   -- published blocks that share a word are one block
   abbrev pub BlocksAreApart : Type 0
-  BlocksAreApart = (at other place : ℕ) → IsPublishedWord sealed_words open_words state.blocks at place
+  BlocksAreApart = (at other place : ℕ)
+      → IsPublishedWord sealed_words open_words state.blocks at place
       → IsPublishedWord sealed_words open_words state.blocks other place → at ≡ other
 
   -- blocks in hand that share a word are one block of one holder
   abbrev pub HandsAreApart : Type 0
-  HandsAreApart = (holder at other_holder other place : ℕ) → IsWordInHand hands_of state.views holder at place
-      → IsWordInHand hands_of state.views other_holder other place → (holder ≡ other_holder) × (at ≡ other)
+  HandsAreApart = (holder at other_holder other place : ℕ)
+      → IsWordInHand hands_of state.views holder at place
+      → IsWordInHand hands_of state.views other_holder other place
+      → (holder ≡ other_holder) × (at ≡ other)
 
   -- no word in hand is published
   abbrev pub HandsAreUnpublished : Type 0
-  HandsAreUnpublished = (holder at other place : ℕ) → IsWordInHand hands_of state.views holder at place
+  HandsAreUnpublished = (holder at other place : ℕ)
+      → IsWordInHand hands_of state.views holder at place
       → IsPublishedWord sealed_words open_words state.blocks other place → ⊥
 
   -- a block in hand isn't published yet, where each kind of block has a word

@@ -31,14 +31,16 @@ module _ {B V : Type 0} where
 
   -- the holder's announce word is another
   abbrev pub with_announced : ArenaState B V → ℕ → ℕ → ArenaState B V
-  with_announced state holder value = record state { announced = updated state.announced holder value }
+  with_announced state holder value =
+      record state { announced = updated state.announced holder value }
 
   -- cell `k` of the block at `at` is another
   abbrev pub with_cell : ArenaState B V → ℕ → ℕ → ℕ → ArenaState B V
   with_cell state at k value = record state { cells = cells_with state.cells at k value }
 
   -- the block at `at` is published, and the view has it in hand no more
-  abbrev pub after_publish : (B → List ℕ) → (B → ℕ) → ArenaState B V → ℕ → V → ℕ → B → ArenaState B V
+  abbrev pub after_publish : (B → List ℕ) → (B → ℕ)
+      → ArenaState B V → ℕ → V → ℕ → B → ArenaState B V
   after_publish sealed_words open_words state holder view at block = record state {
     owners = claimed state.owners at (block_size sealed_words open_words block)
         (block_owner at (length (sealed_words block)));

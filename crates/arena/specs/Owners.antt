@@ -1,6 +1,8 @@
--- Who owns each word of an arena. A word has one owner, so what has owners of its own shares no word.
+-- Who owns each word of an arena. A word has one owner, so what has owners of its own shares no
+-- word.
 use Rattle.std.specs.Prelude.{ℕ, ◌+◌, ◌-◌, ◌&&◌, nat_le, nat_lt, if◌then◌else◌}
 
+-- an owner of one word
 pub data Owner : Type 0 where
   -- nobody: it was never drawn, or lies past the end
   free : Owner
@@ -15,8 +17,8 @@ pub data Owner : Type 0 where
 
 -- the owners after the `count` words from `at` on went over, word k of them to `owner k`
 unfoldable pub claimed : (ℕ → Owner) → ℕ → ℕ → (ℕ → Owner) → ℕ → Owner
-claimed owners at count owner a =
-    if nat_le at a && nat_lt a (at + count) then owner (a - at) else owners a
+claimed owners at count owner place =
+    if nat_le at place && nat_lt place (at + count) then owner (place - at) else owners place
 
 -- who owns word k of the published block at `at`, of which the first `count` words are sealed
 unfoldable pub block_owner : ℕ → ℕ → ℕ → Owner

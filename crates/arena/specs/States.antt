@@ -20,7 +20,7 @@ pub record ArenaState (B V : Type 0) : Type 0 where
 
 -- the function with another value at one place
 unfoldable pub updated : {X : Type 0} → (ℕ → X) → ℕ → X → ℕ → X
-updated f place value k = if nat_eq k place then value else f k
+updated old place value at = if nat_eq at place then value else old at
 
 -- the cells with another value in cell `k` of the block at `at`
 abbrev pub cells_with : (ℕ → ℕ → ℕ) → ℕ → ℕ → ℕ → ℕ → ℕ → ℕ

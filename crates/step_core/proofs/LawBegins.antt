@@ -30,12 +30,15 @@ view_at facts first (suc count) (suc pass) view there =
     view_at facts (first + 1) count pass view there
     ∙ ap (fresh_view facts) (let same : first + 1 + pass ≡ first + suc pass = omega arith in same)
 
-pub fresh_is : (facts : RoundFacts) (pass : ℕ) (view : PassView) → get_elem? (fresh_views facts) pass ≡ some view → view ≡ fresh_view facts pass
+-- the view of a pass among the fresh views is that pass's fresh view
+pub fresh_is : (facts : RoundFacts) (pass : ℕ) (view : PassView) → get_elem? (fresh_views facts) pass ≡ some view
+    → view ≡ fresh_view facts pass
 fresh_is facts pass view there =
     view_at facts 0 facts.seats pass view there ∙ ap (fresh_view facts) (let same : 0 + pass ≡ pass = omega arith in same)
 
 -- what holds of each fresh view holds of each
-pub each_fresh : (P : ℕ → PassView → Type 0) (facts : RoundFacts) → ((pass : ℕ) → P pass (fresh_view facts pass)) → Each P (fresh_views facts)
+pub each_fresh : (P : ℕ → PassView → Type 0) (facts : RoundFacts) → ((pass : ℕ) → P pass (fresh_view facts pass))
+    → Each P (fresh_views facts)
 each_fresh P facts holds pass view there = subst (P pass) (sym (fresh_is facts pass view there)) (holds pass)
 
 -- they count for nothing

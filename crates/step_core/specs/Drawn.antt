@@ -28,7 +28,8 @@ HasBegun before now keys i =
 abbrev pub HasBuilt : List ℕ → List ℕ → List ℕ → Type 0
 HasBuilt before now keys = HasDrawn before now (FIRST_KEY + length keys) (row_words keys)
 
--- from `now` to `later` the i-th key of the row that was drawn since `before` is written into its place
+-- from `now` to `later` the i-th key of the row that was drawn since `before` is written into its
+-- place
 pub record WritesKey (before now later keys : List ℕ) (i at value : ℕ) : Type 0 where
   pub left : i < length keys
   pub place : at ≡ next_of before + FIRST_KEY + i

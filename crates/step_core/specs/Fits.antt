@@ -1,5 +1,5 @@
--- When the words of a round, its published blocks and its passes' views fit: what holds of them between any two
--- steps, their history apart.
+-- When the words of a round, its published blocks and its passes' views fit: what holds of them
+-- between any two steps, their history apart.
 use Rattle.std.specs.Prelude.{◌≡◌, ◌≢◌, ℕ, zero, suc, ◌+◌, ◌*◌, ◌<◌, ◌≤◌, ◌⊎◌, List, length, if◌then◌else◌, is_some, sum_by, All, Option, Some, None}
 use Rattle.std.specs.List.Sorted.{IsStrictlyIncreasing}
 use Rattle.step_core.specs.Format.{IsNil, IsMutable, row_address}
@@ -15,8 +15,8 @@ use Rattle.step_core.specs.declared.views.PassView.{PassView}
 use Rattle.step_core.specs.declared.views.RoundFacts.{RoundFacts}
 
 -- the row at the address was published for the spot's bucket of the generation
-pub record IsAtHome (blocks : ℕ → Option Published) (at : ℕ) (generation : GenerationBlock) (spot : ℕ)
-    : Type 0 where
+pub record IsAtHome (blocks : ℕ → Option Published) (at : ℕ) (generation : GenerationBlock)
+    (spot : ℕ) : Type 0 where
   pub row : RowBlock
   pub here : IsRow blocks at row
   pub exponent : row.exponent ≡ generation.exponent
@@ -32,10 +32,12 @@ predecessor_of (Some (Op op)) = 0
 -- the address of the generation so many before the one at the address
 unfoldable pub generation_before : (ℕ → Option Published) → ℕ → ℕ → ℕ
 generation_before blocks at zero = at
-generation_before blocks at (suc count) = predecessor_of (blocks (generation_before blocks at count))
+generation_before blocks at (suc count) =
+    predecessor_of (blocks (generation_before blocks at count))
 
 -- the generation's predecessor is published, isn't the head, and has one bucket bit more or less
-pub record FollowsAnother (head : ℕ) (blocks : ℕ → Option Published) (generation : GenerationBlock) : Type 0 where
+pub record FollowsAnother (head : ℕ) (blocks : ℕ → Option Published)
+    (generation : GenerationBlock) : Type 0 where
   pub other : GenerationBlock
   pub there : IsGeneration blocks generation.predecessor other
   pub not_head : generation.predecessor ≢ head
@@ -55,13 +57,15 @@ pub record IsChain (head : ℕ) (blocks : ℕ → Option Published) (cells : ℕ
   -- no bucket of the head is frozen
   pub mutable : (bucket : ℕ) → IsMutable (cells head bucket)
   -- a bucket is nil at most in a head that has a predecessor
-  pub filled : (at : ℕ) (generation : GenerationBlock) (spot : ℕ) → IsGeneration blocks at generation
-      → (at ≢ head) ⊎ (generation.predecessor ≡ 0)
+  pub filled : (at : ℕ) (generation : GenerationBlock) (spot : ℕ)
+      → IsGeneration blocks at generation → (at ≢ head) ⊎ (generation.predecessor ≡ 0)
       → ¬ IsNil (cells at (bucket_of generation.exponent spot))
   -- a bucket names a row of its own
-  pub names : (at : ℕ) (generation : GenerationBlock) (spot : ℕ) → IsGeneration blocks at generation
+  pub names : (at : ℕ) (generation : GenerationBlock) (spot : ℕ)
+      → IsGeneration blocks at generation
       → ¬ IsNil (cells at (bucket_of generation.exponent spot))
-      → IsAtHome blocks (row_address (cells at (bucket_of generation.exponent spot))) generation spot
+      → IsAtHome blocks (row_address (cells at (bucket_of generation.exponent spot)))
+      generation spot
 
 -- the row's operation is published, and its key is of the row's class
 pub record HasOp (blocks : ℕ → Option Published) (row : RowBlock) : Type 0 where
@@ -113,7 +117,8 @@ pub record IsAccount (facts : RoundFacts) (next ticket : ℕ) (views : List Pass
   pub sum : next ≡ facts.opened + sum_by (λ view. view.drawn) views
   -- each pass drew past the end once at most
   pub bound : next ≤ facts.cap + MAX_DRAW * sum_by spent_count views
-  pub spent : Each (λ number view. (place : ℕ) → view.spent ≡ Some place → PassedEnd facts.cap next place) views
+  pub spent : Each (λ number view. (place : ℕ) → view.spent ≡ Some place
+      → PassedEnd facts.cap next place) views
   -- each ticket drawn has an operation's block of its own
   pub tickets : OP_LEN * ticket ≤ next
 
@@ -132,7 +137,8 @@ pub record Fits (facts : RoundFacts) (words : List ℕ) (state : RoundState) : T
   pub passes : length state.views ≡ facts.seats
   pub numbered : Each (IsOfRound facts) state.views
   -- what a pass knows is published
-  pub known : Each (λ number view. All (λ block. state.blocks block.at ≡ Some block.block) view.known) state.views
+  pub known : Each (λ number view.
+      All (λ block. state.blocks block.at ≡ Some block.block) view.known) state.views
 
 -- a round may begin with the words: they fit views that know nothing yet
 abbrev pub BeginsRound : RoundFacts → List ℕ → Type 0

@@ -6,7 +6,8 @@ use Rattle.step_core.specs.Format.{base_of, mutable_word, row_words}
 use Rattle.step_core.specs.declared.format.TheConstants.{FIRST_BUCKET, FIRST_KEY}
 use Rattle.step_core.specs.declared.views.RoundFacts.{RoundFacts}
 
--- the exponent of an opening with so many keys: the least that has at most four keys for each bucket
+-- the exponent of an opening with so many keys: the least that has at most four keys for each
+-- bucket
 pub record IsExponentFor (count exponent : ℕ) : Type 0 where
   pub enough : count ≤ 4 * 2 ^ exponent
   pub least : (less : ℕ) → less < exponent → 4 * 2 ^ less < count
@@ -21,8 +22,8 @@ exponent_from count first (suc more) =
 abbrev pub exponent_for : ℕ → ℕ
 exponent_for count = exponent_from count 0 count
 
--- how many words an opening has: the fixed words, the generation's two, for each bucket its word and three
--- of its row, and the keys
+-- how many words an opening has: the fixed words, the generation's two, for each bucket its word
+-- and three of its row, and the keys
 abbrev pub opening_words : ℕ → List ℕ → ℕ
 opening_words seats keys =
     base_of seats + FIRST_BUCKET + (1 + FIRST_KEY) * 2 ^ exponent_for (length keys) + length keys
@@ -33,16 +34,19 @@ rows_of exponent keys zero = []
 rows_of exponent keys (suc bucket) =
     rows_of exponent keys bucket ++ row_words (class_keys exponent bucket keys)
 
--- the address of a bucket's row: behind the generation at `base` and the rows of the buckets before it
+-- the address of a bucket's row: behind the generation at `base` and the rows of the buckets before
+-- it
 abbrev pub row_start : ℕ → ℕ → List ℕ → ℕ → ℕ
 row_start base exponent keys bucket =
     base + FIRST_BUCKET + 2 ^ exponent + length (rows_of exponent keys bucket)
 
--- the generation at `base`: its exponent, no predecessor, and the bucket words, which name these rows
+-- the generation at `base`: its exponent, no predecessor, and the bucket words, which name these
+-- rows
 abbrev pub generation_words : ℕ → ℕ → List ℕ → List ℕ
 generation_words base exponent keys =
     exponent ∷ 0
-    ∷ map (λ bucket. mutable_word (row_start base exponent keys bucket)) (range_with_len 0 (2 ^ exponent))
+    ∷ map (λ bucket. mutable_word (row_start base exponent keys bucket))
+    (range_with_len 0 (2 ^ exponent))
 
 -- HEAD, NEXT, TICKET and the announce words
 abbrev pub fixed_words : ℕ → List ℕ → List ℕ

@@ -8,7 +8,8 @@ use Rattle.step_core.specs.declared.format.TheConstants.{FIRST_BUCKET, FIRST_KEY
 -- the head has no predecessor, and no row in a bucket of it has an operation
 pub record HasPlainRows (words : List ℕ) : Type 0 where
   pub predecessor : slice_index words (head_of words + 1) ≡ 0
-  pub plain : (spot : ℕ) → slice_index words (row_address (bucket_word words (head_of words) spot) + 1) ≡ 0
+  pub plain : (spot : ℕ)
+      → slice_index words (row_address (bucket_word words (head_of words) spot) + 1) ≡ 0
 
 -- the row in the head's bucket
 abbrev pub bucket_row : List ℕ → ℕ → ℕ
@@ -17,7 +18,8 @@ bucket_row words bucket = row_address (slice_index words (head_of words + FIRST_
 -- the keys of the rows in the head's first buckets, one row behind the other
 unfoldable pub keys_before : List ℕ → ℕ → List ℕ
 keys_before words zero = []
-keys_before words (suc bucket) = keys_before words bucket ++ row_keys words (bucket_row words bucket)
+keys_before words (suc bucket) =
+    keys_before words bucket ++ row_keys words (bucket_row words bucket)
 
 -- one generation, and for each of its buckets a row of keys without an operation
 pub record PlainTable : Type 0 where
@@ -29,8 +31,8 @@ pub record PlainTable : Type 0 where
   -- their keys, by bucket
   pub keys : ℕ → List ℕ
 
--- the words of a round with so many seats are this table: the generation, and behind it the rows in the
--- order of the buckets
+-- the words of a round with so many seats are this table: the generation, and behind it the rows in
+-- the order of the buckets
 pub record IsPlainTable (seats : ℕ) (words : List ℕ) (table : PlainTable) : Type 0 where
   pub first : base_of seats ≤ table.head
   pub small : table.exponent ≤ MAX_EXPONENT

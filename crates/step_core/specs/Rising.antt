@@ -1,4 +1,5 @@
--- Rising lists of keys: the place of a key, the list with and without it, and the one change between two.
+-- Rising lists of keys: the place of a key, the list with and without it, and the one change
+-- between two.
 use Rattle.std.specs.Prelude.{◌≡◌, ℕ, true, false, nat_lt, nat_eq, if◌then◌else◌, List, [], ◌∷◌, Option, Some, None}
 use Rattle.std.specs.List.{prefix_len}
 use Rattle.std.specs.Str.{bytes_eq}
@@ -6,23 +7,24 @@ use Rattle.set_model.specs.Keys.{is_in}
 use Rattle.set_model.specs.declared.call.Call.{Call}
 use Rattle.set_model.specs.declared.call.Call.TheVariants.{Insert, Remove, Contains}
 
--- the place of the key in the rising list, or where it would stand: behind the keys that are below it
+-- the place of the key in the rising list, or where it would stand: behind the keys that are below
+-- it
 abbrev pub place_in : List ℕ → ℕ → ℕ
 place_in keys key = prefix_len (λ y. nat_lt y key) keys
 
 -- the rising list with the key
 unfoldable pub with_key : ℕ → List ℕ → List ℕ
 with_key key [] = key ∷ []
-with_key key (x ∷ keys) =
-    if nat_lt x key then x ∷ with_key key keys
-    else (if nat_eq x key then x ∷ keys else key ∷ x ∷ keys)
+with_key key (first ∷ keys) =
+    if nat_lt first key then first ∷ with_key key keys
+    else (if nat_eq first key then first ∷ keys else key ∷ first ∷ keys)
 
 -- the rising list without the key
 unfoldable pub without_key : ℕ → List ℕ → List ℕ
 without_key key [] = []
-without_key key (x ∷ keys) =
-    if nat_lt x key then x ∷ without_key key keys
-    else (if nat_eq x key then keys else x ∷ keys)
+without_key key (first ∷ keys) =
+    if nat_lt first key then first ∷ without_key key keys
+    else (if nat_eq first key then keys else first ∷ keys)
 
 -- one key more or less
 pub record Change : Type 0 where
@@ -46,13 +48,15 @@ pub record IsChange (old new : List ℕ) (call : Call) (key : ℕ) : Type 0 wher
   pub changes : ChangesKeys call key old
   pub after : new ≡ keys_after_call call key old
 
--- the one change from a rising list to another, if it is one: at the first place where they differ the new
--- list has a key more, or the old one
+-- the one change from a rising list to another, if it is one: at the first place where they differ
+-- the new list has a key more, or the old one
 unfoldable pub change_of : List ℕ → List ℕ → Option Change
 change_of [] [] = None
-change_of [] (y ∷ new) = if bytes_eq [] new then Some (record { call = Insert; key = y }) else None
-change_of (x ∷ old) [] = if bytes_eq old [] then Some (record { call = Remove; key = x }) else None
-change_of (x ∷ old) (y ∷ new) =
-    if nat_eq x y then change_of old new
-    else (if bytes_eq (x ∷ old) new then Some (record { call = Insert; key = y })
-    else (if bytes_eq old (y ∷ new) then Some (record { call = Remove; key = x }) else None))
+change_of [] (now ∷ new) =
+    if bytes_eq [] new then Some (record { call = Insert; key = now }) else None
+change_of (was ∷ old) [] =
+    if bytes_eq old [] then Some (record { call = Remove; key = was }) else None
+change_of (was ∷ old) (now ∷ new) =
+    if nat_eq was now then change_of old new
+    else (if bytes_eq (was ∷ old) new then Some (record { call = Insert; key = now })
+    else (if bytes_eq old (now ∷ new) then Some (record { call = Remove; key = was }) else None))

@@ -1,4 +1,5 @@
--- What the words of a round stand for, its history apart: fixed words, published blocks, cells and the passes' views.
+-- What the words of a round stand for, its history apart: fixed words, published blocks, cells and
+-- the passes' views.
 use Rattle.std.specs.Prelude.{◌≡◌, ℕ, List, [], map, Option, Some, None}
 use Rattle.std.specs.List.{range_with_len}
 use mathlib.Core.Option.{some}
@@ -15,7 +16,8 @@ use Rattle.step_core.specs.declared.published.OpBlock.{OpBlock}
 use Rattle.step_core.specs.declared.views.PassView.{PassView}
 use Rattle.step_core.specs.declared.views.RoundFacts.{RoundFacts}
 
--- its published blocks by address, its cells by block and place, and its views by the number of the pass
+-- its published blocks by address, its cells by block and place, and its views by the number of the
+-- pass
 abbrev pub RoundState : Type 0
 RoundState = ArenaState Published PassView
 

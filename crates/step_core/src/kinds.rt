@@ -1,4 +1,5 @@
-/// One atomic step on one word. Places are word numbers from 0; docs/STEPS.md says when each may be used.
+/// One atomic step on one word. Places are word numbers from 0; docs/STEPS.md says when each may be
+/// used.
 #[derive(Clone, Copy, Debug, PartialEq, Eq)]
 pub enum Step {
     /// Loads HEAD. Gives the address of the head generation.
@@ -25,8 +26,8 @@ pub enum Step {
         /// The value.
         value: u64,
     },
-    /// Compares a bucket word and exchanges it: `new` goes in exactly where the word is `old`. Gives the
-    /// word as it was.
+    /// Compares a bucket word and exchanges it: `new` goes in exactly where the word is `old`.
+    /// Gives the word as it was.
     SwapRow {
         /// The bucket word's place.
         at: u64,

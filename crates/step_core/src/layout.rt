@@ -14,7 +14,8 @@ pub struct Plan {
     pub seats: u32,
     /// How many turns a changing call tries on its own, 0 to 1,000,000; not 0 where `turns` is 0.
     pub fast: u32,
-    /// How many turns a call may lose before it gives up helping and its own operation, 0 to 1,000,000.
+    /// How many turns a call may lose before it gives up helping and its own operation, 0 to
+    /// 1,000,000.
     pub turns: u32,
     /// The number of words behind the opening, at most 2^28.
     pub room: u64,

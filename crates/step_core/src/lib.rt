@@ -1,14 +1,14 @@
 //! The words of a round and the atomic steps on them.
 //!
-//! A *round* keeps a set of `u64` keys in one row of `u64` words. The first words are fixed: HEAD has
-//! the address of the head generation, NEXT the first word never drawn. Behind them lie blocks.
-//! A *generation* has 2^exponent *buckets*, each a word that names a *row* or is nil; a row has keys,
-//! rising. A *draw* takes the words from NEXT on. What each word means is in docs/FORMAT.md.
+//! A *round* keeps a set of `u64` keys in one row of `u64` words. The first words are fixed: HEAD
+//! has the address of the head generation, NEXT the first word never drawn. Behind them lie blocks.
+//! A *generation* has 2^exponent *buckets*, each a word that names a *row* or is nil; a row has
+//! keys, rising. A *draw* takes the words from NEXT on. What each word means is in docs/FORMAT.md.
 //!
 //! `step` makes one atomic step and leaves and gives exactly what `after_step` and `gives` of
-//! `specs/Steps.antt` say, the table of docs/STEPS.md. `is_member` of `specs/Content.antt` says which
-//! keys the words hold: `opening` makes words with given keys, and `live_keys` lists them. The smallest
-//! uses are the tests `an_opening_with_five_keys_has_two_rows` and
+//! `specs/Steps.antt` say, the table of docs/STEPS.md. `is_member` of `specs/Content.antt` says
+//! which keys the words hold: `opening` makes words with given keys, and `live_keys` lists them.
+//! The smallest uses are the tests `an_opening_with_five_keys_has_two_rows` and
 //! `an_insert_is_a_draw_writes_and_a_swap`.
 #![tactic(auto)]
 

@@ -1,7 +1,7 @@
 use std::collections::LinkedList;
 
-/// A published block with all its content. No value of it is made: contracts say by it what the words
-/// hold.
+/// A published block with all its content. No value of it is made: contracts say by it what the
+/// words hold.
 #[derive(Drop)]
 pub enum Published {
     /// A generation.
@@ -30,7 +30,8 @@ pub struct RowBlock {
     pub bucket: u64,
     /// The address of its operation, or 0.
     pub op: u64,
-    /// The answer that the operation has on the row's own keys: 0 without one, 1 for false, 2 for true.
+    /// The answer that the operation has on the row's own keys: 0 without one, 1 for false, 2 for
+    /// true.
     pub ans: u64,
     /// Its keys, rising.
     pub keys: LinkedList<u64>,

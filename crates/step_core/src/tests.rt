@@ -12,7 +12,8 @@ use std::test::Fail;
 
 #[tactic(auto, unfolding(crate::specs::Openings::exponent_from, crate::specs::Openings::rows_of))]
 fn open_for_one(alloc: Global) -> Result<Words, NoMemory>
-    ensures words { IfOk result (λ words. words ≡ 4 ∷ 10 ∷ 0 ∷ 0 ∷ 0 ∷ 0 ∷ 14 ∷ 0 ∷ 0 ∷ 0 ∷ replicate 10 0) }
+    ensures words { IfOk result (λ words. words ≡ 4 ∷ 10 ∷ 0 ∷ 0 ∷ 0 ∷ 0 ∷ 14 ∷ 0 ∷ 0 ∷ 0
+        ∷ replicate 10 0) }
     ensures well_formed { IfOk result IsWellFormed }
     ensures single { IfOk result HasOneBucket }
 {
@@ -72,7 +73,8 @@ fn put_only_key(words: &mut Words, key: u64)
     );
 }
 
-// The first words of docs/FORMAT.md's example. An opening whose NEXT is one short would fail here too.
+// The first words of docs/FORMAT.md's example. An opening whose NEXT is one short would fail here
+// too.
 #[test]
 fn an_opening_without_keys_has_no_members(rt: HostRuntime) -> Result<(), Fail> {
     let words = open_for_one(rt.alloc())?;
@@ -84,8 +86,9 @@ fn an_opening_without_keys_has_no_members(rt: HostRuntime) -> Result<(), Fail> {
     Ok(())
 }
 
-// The example of docs/FORMAT.md, word by word: the keys 2 and 3 are in bucket 0, the others in bucket 1. An
-// opening with another exponent, or with a key in the next bucket, would fail here too.
+// The example of docs/FORMAT.md, word by word: the keys 2 and 3 are in bucket 0, the others in
+// bucket 1. An opening with another exponent, or with a key in the next bucket, would fail here
+// too.
 #[test]
 fn an_opening_with_five_keys_has_two_rows(rt: HostRuntime) -> Result<(), Fail> {
     assert_eq!(rt; opening_words(1, &[1, 2, 3, 4, 5]), 19);

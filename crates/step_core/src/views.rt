@@ -54,8 +54,8 @@ pub struct AnnounceLoad {
     pub events: u64,
 }
 
-/// A row of which a pass knows: at some prefix of the history, no shorter than the front, the set had of
-/// the keys of two buckets what the row has. Bucket 0 of exponent 0 has all keys.
+/// A row of which a pass knows: at some prefix of the history, no shorter than the front, the set
+/// had of the keys of two buckets what the row has. Bucket 0 of exponent 0 has all keys.
 pub struct Mark {
     /// The address of the row.
     pub row: u64,

@@ -18,5 +18,6 @@ loop-bucket-preserved c =
       start = next.ensures.end;
       words = c.in_ok-push_row.ensures
           ∙ rows_of-written c.args.words.now.items loop.words.items c.args.exponent keys loop.bucket _ loop.invariant.words
-          (sym (class_keys-part c.args.exponent keys loop.bucket loop.first next.result loop.invariant.start next.ensures.end next.ensures.behind));
+          (sym (class_keys-part c.args.exponent keys loop.bucket loop.first next.result loop.invariant.start next.ensures.end
+          next.ensures.behind));
     }

@@ -14,51 +14,52 @@ use Rattle.std.proofs.lemmas.Map.Keys.{sorted_from_strictly_increasing, non_decr
 use Rattle.set_model.specs.Keys.{keys_set, IsPlaceFor}
 
 -- two sets with the same members are one
-same : (s t : set.FinSet nat_cmp) → ((q : ℕ) → set.contains s q ≡ set.contains t q) → s ≡ t
+same : (one another : set.FinSet nat_cmp) → ((key : ℕ) → set.contains one key ≡ set.contains another key) → one ≡ another
 same = set.same_set nat_cmp_total set.nat_cmp-IsAntisymmetric
 
-tied : (s : set.FinSet nat_cmp) (q key : ℕ) → eq_by_cmp nat_cmp q key ≡ true → set.contains s key ≡ set.contains s q
-tied s q key e = set.contains_tied nat_cmp_total s q key ((Equal-is (nat_cmp q key)).0 e)
+tied : (keys : set.FinSet nat_cmp) (other key : ℕ) → eq_by_cmp nat_cmp other key ≡ true → set.contains keys key ≡ set.contains keys other
+tied keys other key equal = set.contains_tied nat_cmp_total keys other key ((Equal-is (nat_cmp other key)).0 equal)
 
 or_same : (equal here : Bool) → (equal ≡ true → here ≡ true) → (equal || here) ≡ here
-or_same true here h = sym (h refl)
-or_same false here h = refl
+or_same true here implies = sym (implies refl)
+or_same false here implies = refl
 
 not_and_same : (equal here : Bool) → (equal ≡ true → here ≡ false) → (not equal && here) ≡ here
-not_and_same true here h = sym (h refl)
-not_and_same false here h = refl
+not_and_same true here implies = sym (implies refl)
+not_and_same false here implies = refl
 
 not_and_or_same : (equal here : Bool) → (equal ≡ true → here ≡ false) → (not equal && (equal || here)) ≡ here
-not_and_or_same true here h = sym (h refl)
-not_and_or_same false here h = refl
+not_and_or_same true here implies = sym (implies refl)
+not_and_or_same false here implies = refl
 
 -- an insert of a present key changes nothing
-pub insert-present : (s : set.FinSet nat_cmp) (key : ℕ) → set.contains s key ≡ true → set.insert s key ≡ s
-insert-present s key here = same _ _ (λ q.
-    set.contains-insert nat_cmp_total s key q ∙ or_same _ _ (λ e. sym (tied s q key e) ∙ here))
+pub insert-present : (keys : set.FinSet nat_cmp) (key : ℕ) → set.contains keys key ≡ true → set.insert keys key ≡ keys
+insert-present keys key here = same _ _ (λ other.
+    set.contains-insert nat_cmp_total keys key other ∙ or_same _ _ (λ equal. sym (tied keys other key equal) ∙ here))
 
 -- a remove of an absent key changes nothing
-pub remove-absent : (s : set.FinSet nat_cmp) (key : ℕ) → set.contains s key ≡ false → set.remove s key ≡ s
-remove-absent s key gone = same _ _ (λ q.
-    set.contains-remove nat_cmp_total s key q ∙ not_and_same _ _ (λ e. sym (tied s q key e) ∙ gone))
+pub remove-absent : (keys : set.FinSet nat_cmp) (key : ℕ) → set.contains keys key ≡ false → set.remove keys key ≡ keys
+remove-absent keys key gone = same _ _ (λ other.
+    set.contains-remove nat_cmp_total keys key other ∙ not_and_same _ _ (λ equal. sym (tied keys other key equal) ∙ gone))
 
 -- a key that was absent, put in and taken away again
-remove-insert : (s : set.FinSet nat_cmp) (key : ℕ) → set.contains s key ≡ false → set.remove (set.insert s key) key ≡ s
-remove-insert s key gone = same _ _ (λ q.
-    set.contains-remove nat_cmp_total (set.insert s key) key q
-    ∙ ap (λ b. not (eq_by_cmp nat_cmp q key) && b) (set.contains-insert nat_cmp_total s key q)
-    ∙ not_and_or_same _ _ (λ e. sym (tied s q key e) ∙ gone))
+remove-insert : (keys : set.FinSet nat_cmp) (key : ℕ) → set.contains keys key ≡ false → set.remove (set.insert keys key) key ≡ keys
+remove-insert keys key gone = same _ _ (λ other.
+    set.contains-remove nat_cmp_total (set.insert keys key) key other
+    ∙ ap (λ b. not (eq_by_cmp nat_cmp other key) && b) (set.contains-insert nat_cmp_total keys key other)
+    ∙ not_and_or_same _ _ (λ equal. sym (tied keys other key equal) ∙ gone))
 
 -- the order of a list doesn't matter
 pub keys_set-IsPermutation : (xs ys : List ℕ) → IsPermutation xs ys → keys_set xs ≡ keys_set ys
-keys_set-IsPermutation xs ys moved = same _ _ (λ q.
-    set.contains-from_list_nat xs q
-    ∙ list_any-IsPermutation (λ y. nat_eq y q) xs ys moved
-    ∙ sym (set.contains-from_list_nat ys q))
+keys_set-IsPermutation xs ys moved = same _ _ (λ key.
+    set.contains-from_list_nat xs key
+    ∙ list_any-IsPermutation (λ y. nat_eq y key) xs ys moved
+    ∙ sym (set.contains-from_list_nat ys key))
 
 -- what a binary search says of a rising list's set
-pub present : (keys : List ℕ) (key : ℕ) (r : Result ℕ ℕ) → IsStrictlyIncreasing keys → IsBinarySearchResult (λ y. nat_cmp y key) keys r
-    → (is_ok r ≡ set.contains (keys_set keys) key) × IfErr r (IsPlaceFor key keys)
+pub present : (keys : List ℕ) (key : ℕ) (found_at : Result ℕ ℕ) → IsStrictlyIncreasing keys
+    → IsBinarySearchResult (λ y. nat_cmp y key) keys found_at
+    → (is_ok found_at ≡ set.contains (keys_set keys) key) × IfErr found_at (IsPlaceFor key keys)
 present keys key (Ok place) rising found =
     let up = sorted_from_strictly_increasing keys rising in
     let at = searched keys key (Ok place) found (λ i j. non_decreasing_from_sorted keys up i j 0) in
@@ -67,8 +68,8 @@ present keys key (Ok place) rising found =
 present keys key (Err place) rising found =
     let up = sorted_from_strictly_increasing keys rising in
     let at = searched keys key (Err place) found (λ i j. non_decreasing_from_sorted keys up i j 0) in (
-      sym (set.contains-from_list_nat keys key ∙ list_any_none (λ y. nat_eq y key) keys (λ k d within.
-          grind (arith, nat_tests, get_or_default_zero keys k d within, at.1 k, at.2 k))),
+      sym (set.contains-from_list_nat keys key ∙ list_any_none (λ y. nat_eq y key) keys (λ other default within.
+          grind (arith, nat_tests, get_or_default_zero keys other default within, at.1 other, at.2 other))),
       record { within = at.0; before = at.1; behind = at.2 },
     )
 
@@ -77,12 +78,13 @@ gone_without : (keys : List ℕ) (place : ℕ) → IsStrictlyIncreasing keys →
     → set.contains (keys_set (remove keys place)) (get_or keys place 0) ≡ false
 gone_without keys place rising within =
     let up = sorted_from_strictly_increasing keys rising in
-    set.contains-from_list_nat (remove keys place) _ ∙ list_any_none (λ y. nat_eq y (get_or keys place 0)) (remove keys place) (λ k d here.
+    set.contains-from_list_nat (remove keys place) _
+    ∙ list_any_none (λ y. nat_eq y (get_or keys place 0)) (remove keys place) (λ other default here.
     let len = length-remove keys place within in
-    let at = get_or_default_zero keys place d within in
-    let lower = below_from_sorted keys k place d up in
-    let upper = below_from_sorted keys place (k + 1) d up in
-    grind (arith, nat_tests, get_or-remove_below keys place d k, get_or-remove_above keys place d k, lower, upper))
+    let at = get_or_default_zero keys place default within in
+    let lower = below_from_sorted keys other place default up in
+    let upper = below_from_sorted keys place (other + 1) default up in
+    grind (arith, nat_tests, get_or-remove_below keys place default other, get_or-remove_above keys place default other, lower, upper))
 
 -- a rising list without the key at one place has the set without this key
 pub keys_set-remove : (keys : List ℕ) (place : ℕ) → IsStrictlyIncreasing keys → place < length keys

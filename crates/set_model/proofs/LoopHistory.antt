@@ -42,28 +42,29 @@ module _ (keys : set.FinSet nat_cmp) (history : List Entry) where
       let agree = (sets_and_tests_agree members keys history test).1 in
       (λ told. agree.1 (legal.0 told), λ by_test. legal.1 (agree.0 by_test))
 
--- at the entry in the place i
-module _ (history : List Entry) (i : ℕ) (d : Entry) (within : i < length history) where
+-- at the entry in this place
+module _ (history : List Entry) (place : ℕ) (default : Entry) (within : place < length history) where
   abbrev entry : Entry
-  entry = get_or history i d
+  entry = get_or history place default
 
   -- its call takes the set after the entries so far to the set after one more
-  pub set_goes_on : (start now then : set.FinSet nat_cmp) → now ≡ set_after start (take i history)
-      → then ≡ set_after_call entry.call entry.key now → then ≡ set_after start (take (i + 1) history)
+  pub set_goes_on : (start now then : set.FinSet nat_cmp) → now ≡ set_after start (take place history)
+      → then ≡ set_after_call entry.call entry.key now → then ≡ set_after start (take (place + 1) history)
   set_goes_on start now then so_far made =
       made
       ∙ ap (set_after_call entry.call entry.key) so_far
-      ∙ sym (set_after-push start (take i history) entry)
-      ∙ ap (set_after start) (sym (take_more history i d within))
+      ∙ sym (set_after-push start (take place history) entry)
+      ∙ ap (set_after start) (sym (take_more history place default within))
 
   -- where its insert found no memory, the entries so far were made up to it
-  pub set_stops : (start now then : set.FinSet nat_cmp) → now ≡ set_after start (take i history)
+  pub set_stops : (start now then : set.FinSet nat_cmp) → now ≡ set_after start (take place history)
       → (entry.call ≡ Insert) × (set.contains now entry.key ≡ false) → then ≡ now → StopsAtInsert start then history
   set_stops start now then so_far wants same = record {
-    front = take i history;
+    front = take place history;
     entry = entry;
-    rest = drop (i + 1) history;
-    cut = sym (take-append-drop i history) ∙ ap (λ tail. take i history ++ tail) (rw add-one (drop-cons history i d within));
+    rest = drop (place + 1) history;
+    cut = sym (take-append-drop place history)
+        ∙ ap (λ tail. take place history ++ tail) (rw add-one (drop-cons history place default within));
     after = same ∙ so_far;
     insert = wants.0;
     absent = ap (λ keys. set.contains keys entry.key) same ∙ wants.1;
@@ -71,42 +72,44 @@ module _ (history : List Entry) (i : ℕ) (d : Entry) (within : i < length histo
 
   -- whether a key is present after the entries so far, and after one more
   pub key_goes_on : (members : ℕ → Bool) (key : ℕ) (then : Bool)
-      → then ≡ members_after_call entry.call entry.key (members_after members (take i history)) key
-      → then ≡ members_after members (take (i + 1) history) key
+      → then ≡ members_after_call entry.call entry.key (members_after members (take place history)) key
+      → then ≡ members_after members (take (place + 1) history) key
   key_goes_on members key then made =
       made
       ∙ ap (λ (test : ℕ → Bool). test key)
-      (sym (members_after-push members (take i history) entry) ∙ ap (members_after members) (sym (take_more history i d within)))
+      (sym (members_after-push members (take place history) entry)
+      ∙ ap (members_after members) (sym (take_more history place default within)))
 
   module _ (keys : set.FinSet nat_cmp) (present right : Bool)
-      (asked : present ≡ members_after (set.contains keys) (take i history) entry.key) (answered : right ≡ answer_where entry.call present) where
-    right_so_far : right ≡ answer_where entry.call (members_after (set.contains keys) (take i history) entry.key)
+      (asked : present ≡ members_after (set.contains keys) (take place history) entry.key)
+      (answered : right ≡ answer_where entry.call present) where
+    right_so_far : right ≡ answer_where entry.call (members_after (set.contains keys) (take place history) entry.key)
     right_so_far = answered ∙ ap (answer_where entry.call) asked
 
     -- the entries so far are legal with one more whose answer is right
-    pub legal_goes_on : IsLegal (set.contains keys) (take i history) → not (beq entry.answer right) ≡ false
-        → IsLegal (set.contains keys) (take (i + 1) history)
+    pub legal_goes_on : IsLegal (set.contains keys) (take place history) → not (beq entry.answer right) ≡ false
+        → IsLegal (set.contains keys) (take (place + 1) history)
     legal_goes_on so_far equal =
-        subst (IsLegal (set.contains keys)) (sym (take_more history i d within))
-        ((IsLegal-push (set.contains keys) (take i history) entry).1 (so_far, same_answer _ _ equal ∙ right_so_far))
+        subst (IsLegal (set.contains keys)) (sym (take_more history place default within))
+        ((IsLegal-push (set.contains keys) (take place history) entry).1 (so_far, same_answer _ _ equal ∙ right_so_far))
 
     -- a history with a wrong answer isn't legal
     pub legal_stops : not (beq entry.answer right) ≡ true → IsLegalFrom keys history → ⊥
     legal_stops differ legal =
         let by_test = (own_test keys history).1.1 legal in
-        let begins : IsPrefix (take (i + 1) history) history = (drop (i + 1) history, take-append-drop (i + 1) history) in
-        let front = IsLegal-prefix (set.contains keys) (take (i + 1) history) history begins by_test in
-        let pushed = subst (IsLegal (set.contains keys)) (take_more history i d within) front in
-        other_answer _ _ differ (((IsLegal-push (set.contains keys) (take i history) entry).0 pushed).1 ∙ sym right_so_far)
+        let begins : IsPrefix (take (place + 1) history) history = (drop (place + 1) history, take-append-drop (place + 1) history) in
+        let front = IsLegal-prefix (set.contains keys) (take (place + 1) history) history begins by_test in
+        let pushed = subst (IsLegal (set.contains keys)) (take_more history place default within) front in
+        other_answer _ _ differ (((IsLegal-push (set.contains keys) (take place history) entry).0 pushed).1 ∙ sym right_so_far)
 
 -- at the end of the history
-module _ (keys : set.FinSet nat_cmp) (history : List Entry) (i : ℕ) (all : length history ≤ i) where
+module _ (keys : set.FinSet nat_cmp) (history : List Entry) (place : ℕ) (all : length history ≤ place) where
   -- the key is present as it is in the set after the history
-  pub key_ends : (key : ℕ) → members_after (set.contains keys) (take i history) key ≡ set.contains (set_after keys history) key
+  pub key_ends : (key : ℕ) → members_after (set.contains keys) (take place history) key ≡ set.contains (set_after keys history) key
   key_ends key =
-      ap (λ (front : List Entry). members_after (set.contains keys) front key) (take_all i history all)
+      ap (λ (front : List Entry). members_after (set.contains keys) front key) (take_all place history all)
       ∙ sym ((own_test keys history).0 key)
 
   -- all of it is legal
-  pub legal_ends : IsLegal (set.contains keys) (take i history) → IsLegalFrom keys history
-  legal_ends so_far = (own_test keys history).1.0 (subst (IsLegal (set.contains keys)) (take_all i history all) so_far)
+  pub legal_ends : IsLegal (set.contains keys) (take place history) → IsLegalFrom keys history
+  legal_ends so_far = (own_test keys history).1.0 (subst (IsLegal (set.contains keys)) (take_all place history all) so_far)

@@ -5,7 +5,8 @@ use Rattle.std.specs.FinSet.{FinSet, contains, insert, remove}
 use Rattle.set_model.specs.declared.call.Call.{Call}
 use Rattle.set_model.specs.declared.call.Call.TheVariants.{Insert, Remove, Contains}
 
--- the answer where its key is present or not: an insert is true where it was absent, the two others where it was present
+-- the answer where its key is present or not: an insert is true where it was absent, the two others
+-- where it was present
 abbrev pub answer_where : Call → Bool → Bool
 answer_where Insert present = not present
 answer_where Remove present = present

@@ -14,19 +14,22 @@ set_after keys (entry ∷ rest) = set_after (set_after_call entry.call entry.key
 -- the same of a test on keys: which keys are members after the history
 abbrev pub members_after : (ℕ → Bool) → List Entry → ℕ → Bool
 members_after members [] = members
-members_after members (entry ∷ rest) = members_after (members_after_call entry.call entry.key members) rest
+members_after members (entry ∷ rest) =
+    members_after (members_after_call entry.call entry.key members) rest
 
 -- each entry's answer is that of a plain set at its place, from the members of a test
 abbrev pub IsLegal : (ℕ → Bool) → List Entry → Type 0
 IsLegal members [] = Unit {0}
 IsLegal members (entry ∷ rest) =
-    (entry.answer ≡ answer_where entry.call (members entry.key)) × IsLegal (members_after_call entry.call entry.key members) rest
+    (entry.answer ≡ answer_where entry.call (members entry.key))
+    × IsLegal (members_after_call entry.call entry.key members) rest
 
 -- the same from a finite set
 abbrev pub IsLegalFrom : FinSet nat_cmp → List Entry → Type 0
 IsLegalFrom keys [] = Unit {0}
 IsLegalFrom keys (entry ∷ rest) =
-    (entry.answer ≡ answer_of entry.call entry.key keys) × IsLegalFrom (set_after_call entry.call entry.key keys) rest
+    (entry.answer ≡ answer_of entry.call entry.key keys)
+    × IsLegalFrom (set_after_call entry.call entry.key keys) rest
 
 -- the calls of the history were made up to an insert of an absent key
 pub record StopsAtInsert (old new : FinSet nat_cmp) (history : List Entry) : Type 0 where

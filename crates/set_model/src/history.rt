@@ -7,8 +7,8 @@ ghost use Rattle.set_model.specs.Keys.{IsTestOf};
 use crate::{Entry, NoMemory, PlainSet};
 
 impl PlainSet {
-    /// Makes the calls of the history in order, whatever answers it tells. After `NoMemory` those before
-    /// an insert of an absent key were made.
+    /// Makes the calls of the history in order, whatever answers it tells. After `NoMemory` those
+    /// before an insert of an absent key were made.
     pub fn replay(&mut self, history: &[Entry]) -> Result<(), NoMemory>
         ensures after { OnOk result (self.new ≡ set_after self.old history.now) }
         ensures refused { OnErr result (StopsAtInsert self.old self.new history.now) }
@@ -32,8 +32,8 @@ impl PlainSet {
         present
     }
 
-    /// Whether each answer in the history is that of a plain set at its place, which begins as this one.
-    /// Takes no memory, and time in the square of the history's length.
+    /// Whether each answer in the history is that of a plain set at its place, which begins as this
+    /// one. Takes no memory, and time in the square of the history's length.
     pub fn accepts(&self, history: &[Entry]) -> bool
         ensures set { IsTrue result ↔ IsLegalFrom self.now history.now }
         ensures test { (members : ℕ → Bool) → IsTestOf members self.now

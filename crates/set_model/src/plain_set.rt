@@ -45,12 +45,13 @@ impl PlainSet {
         PlainSet { keys }
     }
 
-    /// Makes one call at the key and gives its answer. `NoMemory` comes only for an insert of an absent
-    /// key, and the set is then as it was.
+    /// Makes one call at the key and gives its answer. `NoMemory` comes only for an insert of an
+    /// absent key, and the set is then as it was.
     pub fn apply(&mut self, call: Call, key: u64) -> Result<bool, NoMemory>
         ensures answer { IfOk result (λ answer. answer ≡ answer_of call key self.old) }
         ensures after { OnOk result (self.new ≡ set_after_call call key self.old) }
-        ensures no_memory { OnErr result ((call ≡ Call.Insert) × (set.contains self.old key ≡ false)) }
+        ensures no_memory { OnErr result
+            ((call ≡ Call.Insert) × (set.contains self.old key ≡ false)) }
         ensures refused { OnErr result (self.new ≡ self.old) }
     {
         match call {

@@ -10,7 +10,8 @@ use crate::NoMemory;
 pub(crate) fn find(keys: &[u64], key: u64) -> Result<usize, usize>
     requires { IsStrictlyIncreasing keys.now }
     ensures present { is_ok result ≡ set.contains (keys_set keys.now) key }
-    ensures found { IfOk result (λ place. (place < length keys.now) × (slice_index keys.now place ≡ key)) }
+    ensures found { IfOk result (λ place.
+        (place < length keys.now) × (slice_index keys.now place ≡ key)) }
     ensures absent { IfErr result (IsPlaceFor key keys.now) }
 {
     keys.binary_search(&key)

@@ -9,4 +9,5 @@ pub returns-clause-ok : goal.returns-clause-ok
 returns-clause-ok c =
     let keys = c.args.keys.now.items in
     ap keys_set c.in_ok-insert.ensures.items
-    ∙ sym (keys_set-IsPermutation (c.args.key ∷ keys) (insert keys c.args.place c.args.key) (IsPermutation-insert keys c.args.place c.args.key))
+    ∙ sym (keys_set-IsPermutation (c.args.key ∷ keys) (insert keys c.args.place c.args.key)
+    (IsPermutation-insert keys c.args.place c.args.key))

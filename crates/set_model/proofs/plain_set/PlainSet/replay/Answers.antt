@@ -9,6 +9,7 @@ loop-entry-preserved c =
 
 pub returns-in_err-apply-clause-refused : goal.returns-in_err-apply-clause-refused
 returns-in_err-apply-clause-refused c =
-    let stops = set_stops c.args.history.now c.loop-entry.entry-index _ c.loop-entry-test.true c.args.self.now c.loop-entry.self c.apply.new.self
+    let stops =
+    set_stops c.args.history.now c.loop-entry.entry-index _ c.loop-entry-test.true c.args.self.now c.loop-entry.self c.apply.new.self
     c.loop-entry.invariant c.in_err-apply.ensures.no_memory c.in_err-apply.ensures.refused in
     search (rules, stops)

@@ -19,16 +19,19 @@ module _ (name : List ℕ) where
   abbrev pub named : String Global × Vec ℕ Global → Bool
   named file = bytes_eq (string_bytes file.0) name
 
-  content_at-position : (files : List (String Global × Vec ℕ Global)) → content_at files (position_or_len named files) ≡ bytes_of (files_of files) name
+  content_at-position : (files : List (String Global × Vec ℕ Global))
+      → content_at files (position_or_len named files) ≡ bytes_of (files_of files) name
   content_at-position [] = refl
   content_at-position (file ∷ files) =
       let rest = position_or_len named files in
-      elim (named file) as (λ b. content_at (file ∷ files) (cond (not b) (1 + rest) 0) ≡ cond b file.1.items (bytes_of (files_of files) name)) [
+      elim (named file) as (λ b. content_at (file ∷ files) (cond (not b) (1 + rest) 0)
+      ≡ cond b file.1.items (bytes_of (files_of files) name)) [
         | true ↦ refl
         | false ↦ ap (content_at (file ∷ files)) (one_plus rest) ∙ content_at-position files
       ]
 
-  is_there : (files : List (String Global × Vec ℕ Global)) → nat_lt (position_or_len named files) (length files) ≡ has_file (files_of files) name
+  is_there : (files : List (String Global × Vec ℕ Global))
+      → nat_lt (position_or_len named files) (length files) ≡ has_file (files_of files) name
   is_there [] = refl
   is_there (file ∷ files) =
       let rest = position_or_len named files in
@@ -38,31 +41,38 @@ module _ (name : List ℕ) where
       ]
 
 -- the first file of the name is found
-pub first_named : (files : List (String Global × Vec ℕ Global)) (name : List ℕ) (place : ℕ) (d : String Global × Vec ℕ Global) → place < length files
-    → ((k : ℕ) → k < place → named name (get_or files k d) ≡ false) → named name (get_or files place d) ≡ true
+pub first_named : (files : List (String Global × Vec ℕ Global)) (name : List ℕ) (place : ℕ)
+    (default : String Global × Vec ℕ Global) → place < length files
+    → ((k : ℕ) → k < place → named name (get_or files k default) ≡ false) → named name (get_or files place default) ≡ true
     → IsPlaceOf files name (Some place)
-first_named files name place d within before here =
-    let at : position_or_len (named name) files ≡ place = position_or_len_is (named name) files place d (omega arith) before (λ _. here) in
+first_named files name place default within before here =
+    let at : position_or_len (named name) files ≡ place =
+    position_or_len_is (named name) files place default (omega arith) before (λ _. here) in
     let below : nat_lt (position_or_len (named name) files) (length files) ≡ true = grind (arith, nat_tests) in
     (sym (is_there name files) ∙ below, ap (content_at files) (sym at) ∙ content_at-position name files)
 
 -- no file of the name is found
 pub none_named : (files : List (String Global × Vec ℕ Global)) (name : List ℕ)
-    → ((k : ℕ) (d : String Global × Vec ℕ Global) → k < length files → named name (get_or files k d) ≡ false) → IsPlaceOf files name None
+    → ((k : ℕ) (default : String Global × Vec ℕ Global) → k < length files → named name (get_or files k default) ≡ false)
+    → IsPlaceOf files name None
 none_named [] name each = refl
 none_named (file ∷ files) name each =
     let all = file ∷ files in
     let at : position_or_len (named name) all ≡ length all =
-    position_or_len_is (named name) all (length all) file (omega arith) (λ k below. each k file below) (λ past. absurd (omega (arith, past))) in
+    position_or_len_is (named name) all (length all) file (omega arith) (λ k below. each k file below)
+    (λ past. absurd (omega (arith, past))) in
     let past : nat_lt (position_or_len (named name) all) (length all) ≡ false = grind (arith, nat_tests) in
     sym (is_there name all) ∙ past
 
 -- a file that is there holds what stands at its place
-pub content_at-get : (files : List (String Global × Vec ℕ Global)) (place : ℕ) (d : String Global × Vec ℕ Global) → place < length files → content_at files place ≡ (get_or files place d).1.items
-content_at-get [] place d within = absurd (omega (arith, within))
-content_at-get (file ∷ files) zero d within = refl
-content_at-get (file ∷ files) (suc place) d within = content_at-get files place d (omega (arith, within))
+pub content_at-get : (files : List (String Global × Vec ℕ Global)) (place : ℕ)
+    (default : String Global × Vec ℕ Global) → place < length files
+    → content_at files place ≡ (get_or files place default).1.items
+content_at-get [] place default within = absurd (omega (arith, within))
+content_at-get (file ∷ files) zero default within = refl
+content_at-get (file ∷ files) (suc place) default within = content_at-get files place default (omega (arith, within))
 
+-- past the last file there is nothing
 pub content_at-past : (files : List (String Global × Vec ℕ Global)) (place : ℕ) → length files ≤ place → content_at files place ≡ []
 content_at-past [] place past = refl
 content_at-past (file ∷ files) zero past = absurd (omega (arith, past))

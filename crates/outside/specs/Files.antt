@@ -28,7 +28,8 @@ files_of [] = []
 files_of (file ∷ files) = (string_bytes file.0, file.1.items) ∷ files_of files
 
 -- After a start the file's bytes are left, after a failed one nothing. What is told stays told.
-pub record Starts {T E : Type 0} (files : Option Files) (before now : Option (List ℕ)) (name : List ℕ) (result : Result T E) : Type 0 where
+pub record Starts {T E : Type 0} (files : Option Files) (before now : Option (List ℕ))
+    (name : List ℕ) (result : Result T E) : Type 0 where
   pub content : IfSome files (λ told. OnOk result (now ≡ Some (bytes_of told name)))
   pub nothing : OnErr result (IsAtEnd now)
   pub told : IsSome files ⊎ IsSome before → IsSome now

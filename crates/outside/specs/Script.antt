@@ -24,8 +24,8 @@ abbrev pub left_of : List (String Global × Vec ℕ Global) → Option Reading �
 left_of files None = []
 left_of files (Some reading) = drop reading.offset (content_at files reading.place)
 
--- Inputs in memory: the files, the calls that shall fail, the most bytes of a read, how many calls were
--- made and how many of them failed, and what is left of the file that is read.
+-- Inputs in memory: the files, the calls that shall fail, the most bytes of a read, how many calls
+-- were made and how many of them failed, and what is left of the file that is read.
 pub record Script : Type 0 where
   pub files : Files
   pub fails : List ℕ
@@ -41,8 +41,8 @@ pub record Called (old new : Script) : Type 0 where
   pub fails : new.fails ≡ old.fails
   pub piece : new.piece ≡ old.piece
 
--- A sink in memory: its room in bytes, the calls that shall fail, the most bytes of a write, how many
--- calls were made and how many of them failed, and what was written.
+-- A sink in memory: its room in bytes, the calls that shall fail, the most bytes of a write, how
+-- many calls were made and how many of them failed, and what was written.
 pub record Record : Type 0 where
   pub room : ℕ
   pub fails : List ℕ
@@ -54,7 +54,8 @@ pub record Record : Type 0 where
 -- the place of the file of this name, where there is one: what is left once it starts is its bytes
 abbrev pub IsPlaceOf : List (String Global × Vec ℕ Global) → List ℕ → Option ℕ → Type 0
 IsPlaceOf files name result = MatchOption result (has_file (files_of files) name ≡ false) (λ place.
-    (has_file (files_of files) name ≡ true) × (content_at files place ≡ bytes_of (files_of files) name))
+    (has_file (files_of files) name ≡ true)
+    × (content_at files place ≡ bytes_of (files_of files) name))
 
 -- a call failed where it is listed, or where nothing of the kind that it asks for is there
 abbrev pub FailsAsListed : {T E : Type 0} → Script → Bool → Result T E → Type 0
@@ -63,7 +64,8 @@ FailsAsListed old missing result = is_err result ≡ (is_listed old.fails old.ca
 -- a write failed where it is listed, or where all of the room is used and the piece isn't empty
 abbrev pub SinkFails : {T E : Type 0} → Record → List ℕ → Result T E → Type 0
 SinkFails old piece result =
-    is_err result ≡ (is_listed old.fails old.calls || (length old.written == old.room && nat_lt 0 (length piece)))
+    is_err result ≡ (is_listed old.fails old.calls
+    || (length old.written == old.room && nat_lt 0 (length piece)))
 
 -- one more call was made, and all that was given stays
 pub record SinkCalled (old new : Record) : Type 0 where

@@ -1,5 +1,5 @@
-/// Is called beside each call that a worker makes on the shared set. It tells nothing and changes no
-/// answer; a test may hold workers in it.
+/// Is called beside each call that a worker makes on the shared set. It tells nothing and changes
+/// no answer; a test may hold workers in it.
 pub trait Gate: Sync {
     /// Comes directly before the worker's call. Workers and their calls count from 0.
     fn before(&self, worker: u32, nth: u64);

@@ -24,8 +24,8 @@ pub trait Inputs {
         ensures left { Starts (files self.old) (left self.old) (left self.new) name.now result }
         ensures cause { HasCause (faults self.old) (faults self.new) result };
 
-    /// Reads into the front of the buffer, and gives the number of bytes: 0 only where nothing is left
-    /// or the buffer is empty. After `Failed` the same bytes are left.
+    /// Reads into the front of the buffer, and gives the number of bytes: 0 only where nothing is
+    /// left or the buffer is empty. After `Failed` the same bytes are left.
     fn read(&mut self, buf: &mut [u8]) -> Result<usize, Failed>
         ensures bound { ReadsAtMost result buf.new }
         ensures files { files self.new ≡ files self.old }

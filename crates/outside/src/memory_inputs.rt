@@ -28,21 +28,21 @@ impl Model for MemInputs {
 
     ghost Value = { Script };
 
-    ghost view = { λ m. record {
-      files = files_of m.files.items;
-      fails = m.fails.items;
-      piece = m.piece;
-      calls = m.calls;
-      faults = m.faults;
-      left = left_of m.files.items m.reading;
+    ghost view = { λ inputs. record {
+      files = files_of inputs.files.items;
+      fails = inputs.fails.items;
+      piece = inputs.piece;
+      calls = inputs.calls;
+      faults = inputs.faults;
+      left = left_of inputs.files.items inputs.reading;
     } };
 
     ghost invariant = { λ m. 0 < m.piece };
 }
 
 impl MemInputs {
-    /// Files under names that differ; a read gives at most `piece` bytes. The calls whose numbers are in
-    /// `fails` fail, and so does a start of a name that no file has; no other call does.
+    /// Files under names that differ; a read gives at most `piece` bytes. The calls whose numbers
+    /// are in `fails` fail, and so does a start of a name that no file has; no other call does.
     pub fn new(files: Vec<(String, Vec<u8>)>, fails: Vec<u64>, piece: usize) -> Self
         requires names { IsTrue (names_differ (files_of files.items)) }
         requires piece { 0 < piece }
@@ -75,7 +75,8 @@ impl Inputs for MemInputs {
 
     fn start(&mut self, name: &str) -> Result<(), Failed>
         ensures files { self.new.files ≡ self.old.files }
-        ensures left { Starts (Some self.old.files) (Some self.old.left) (Some self.new.left) name.now result }
+        ensures left { Starts (Some self.old.files) (Some self.old.left) (Some self.new.left)
+            name.now result }
         ensures cause { HasCause self.old.faults self.new.faults result }
         ensures fails { FailsAsListed self.old (not (has_file self.old.files name.now)) result }
         ensures called { Called self.old self.new }

@@ -25,22 +25,22 @@ impl Model for MemSink {
 
     ghost Value = { Record };
 
-    ghost view = { λ s. record {
-      room = vec_len s.space;
-      fails = s.fails.items;
-      piece = s.piece;
-      calls = s.calls;
-      faults = s.faults;
-      written = take s.used s.space.items;
+    ghost view = { λ sink. record {
+      room = vec_len sink.space;
+      fails = sink.fails.items;
+      piece = sink.piece;
+      calls = sink.calls;
+      faults = sink.faults;
+      written = take sink.used sink.space.items;
     } };
 
     ghost invariant = { λ s. (0 < s.piece) × (s.used ≤ vec_len s.space) };
 }
 
 impl MemSink {
-    /// A sink that keeps what is written in `space`, which bounds it: no call takes memory. A write takes
-    /// at most `piece` bytes. The calls whose numbers are in `fails` fail, and so does a write of
-    /// something once all of the space is used; no other call does.
+    /// A sink that keeps what is written in `space`, which bounds it: no call takes memory. A write
+    /// takes at most `piece` bytes. The calls whose numbers are in `fails` fail, and so does a
+    /// write of something once all of the space is used; no other call does.
     pub fn new(space: Vec<u8>, fails: Vec<u64>, piece: usize) -> Self
         requires { 0 < piece }
         ensures { result ≡ record {
@@ -77,7 +77,8 @@ impl Sink for MemSink {
 
     fn write(&mut self, piece: &[u8]) -> Result<usize, Failed>
         ensures bound { TakesSome piece.now result }
-        ensures written { WriteAppends (Some self.old.written) (Some self.new.written) result piece.now }
+        ensures written { WriteAppends (Some self.old.written) (Some self.new.written)
+            result piece.now }
         ensures cause { HasCause self.old.faults self.new.faults result }
         ensures fails { SinkFails self.old piece.now result }
         ensures piece { IfOk result (λ n. n ≤ self.old.piece) }

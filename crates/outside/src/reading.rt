@@ -38,7 +38,8 @@ pub(crate) fn read_on(content: &[u8], offset: &mut usize, buf: &mut [u8], piece:
     requires { 0 < piece }
     ensures bound { result ≤ length buf.new }
     ensures piece { result ≤ piece }
-    ensures left { drop offset.old content.now ≡ take result buf.new ++ drop offset.new content.now }
+    ensures left { drop offset.old content.now
+        ≡ take result buf.new ++ drop offset.new content.now }
     ensures end { result ≡ 0 → 0 < length buf.new → drop offset.new content.now ≡ [] }
 {
     let rest = content.get(*offset..).unwrap_or(&[]);

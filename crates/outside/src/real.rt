@@ -59,7 +59,8 @@ impl<R: Files + Drop> Inputs for RealInputs<R> {
         ensures cause { HasCause self.old.faults self.new.faults result }
         ensures closed { self.old.started ≡ None → result ≡ Ok 0 }
         ensures bytes { IfSome self.old.started (λ before. IfSome self.new.started (λ after.
-            ReadConsumes (⟦<R::File as Read>⟧.remaining before) (⟦<R::File as Read>⟧.remaining after) result buf.new)) }
+            ReadConsumes (⟦<R::File as Read>⟧.remaining before)
+            (⟦<R::File as Read>⟧.remaining after) result buf.new)) }
     {
         let Some(file) = &mut self.started else {
             return Ok(0);

@@ -26,8 +26,8 @@ pub(crate) fn copy_front(from: &[u8], to: &mut [u8], piece: usize) -> usize
     count
 }
 
-/// Copies the front of `from` behind what is used of the space, at most `piece` bytes, and gives their
-/// number.
+/// Copies the front of `from` behind what is used of the space, at most `piece` bytes, and gives
+/// their number.
 pub(crate) fn append_front(from: &[u8], space: &mut [u8], used: usize, piece: usize) -> usize
     requires used { used ≤ length space.old }
     requires piece { 0 < piece }

@@ -13,8 +13,8 @@ pub trait Sink {
     /// The bytes taken so far, where told.
     ghost written: { Self → Option (List ℕ) };
 
-    /// Takes bytes from the front of the piece and gives their number, at least 1 where the piece isn't
-    /// empty. After `Failed` none of them was taken.
+    /// Takes bytes from the front of the piece and gives their number, at least 1 where the piece
+    /// isn't empty. After `Failed` none of them was taken.
     fn write(&mut self, piece: &[u8]) -> Result<usize, Failed>
         ensures bound { TakesSome piece.now result }
         ensures written { WriteAppends (written self.old) (written self.new) result piece.now }

@@ -21,9 +21,9 @@ impl Model for SteadyInputs {
 
     ghost Value = { Shelf };
 
-    ghost view = { λ s. record {
-      files = files_of s.files.items;
-      left = left_of s.files.items s.reading;
+    ghost view = { λ inputs. record {
+      files = files_of inputs.files.items;
+      left = left_of inputs.files.items inputs.reading;
     } };
 }
 
@@ -49,7 +49,8 @@ impl Inputs for SteadyInputs {
 
     fn start(&mut self, name: &str) -> Result<(), Failed>
         ensures files { self.new.files ≡ self.old.files }
-        ensures left { Starts (Some self.old.files) (Some self.old.left) (Some self.new.left) name.now result }
+        ensures left { Starts (Some self.old.files) (Some self.old.left) (Some self.new.left)
+            name.now result }
         ensures cause { HasCause 0 0 result }
         ensures never { IsOk result }
     {

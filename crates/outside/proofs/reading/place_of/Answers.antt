@@ -7,8 +7,11 @@ pub returns-then-eq : goal.returns-then-eq
 returns-then-eq c =
     let file = c.index-files-place.result in
     let here : named c.args.name.now (get_or c.args.files.now c.loop-place.place file) ≡ true =
-    sym (ap (named c.args.name.now) c.index-files-place.is) ∙ ap (λ (text : List ℕ). bytes_eq text c.args.name.now) (sym c.as_str.ensures.value) ∙ sym c.if-eq.ensures in
-    first_named c.args.files.now c.args.name.now c.loop-place.place file c.loop-place-test.true (λ k below. c.loop-place.invariant k file below) here
+    sym (ap (named c.args.name.now) c.index-files-place.is)
+    ∙ ap (λ (text : List ℕ). bytes_eq text c.args.name.now) (sym c.as_str.ensures.value)
+    ∙ sym c.if-eq.ensures in
+    first_named c.args.files.now c.args.name.now c.loop-place.place file c.loop-place-test.true
+    (λ k below. c.loop-place.invariant k file below) here
 
 -- no file has the name
 pub returns : goal.returns

@@ -10,10 +10,12 @@ loop-taken-preserved g c =
     let write = c.in_ok-taken.ensures in
     let bytes = c.args.bytes.now in
     let taken = c.loop-taken.taken in
-    let n = c.in_ok-taken.field-0 in
+    let count = c.in_ok-taken.field-0 in
     let written = g.O.Sink.written in
-    let front = take-add_range bytes taken n write.bound.0 before.within in
-    let both = Appends-trans (written c.args.out.now) (written c.loop-taken.out) (written c.write.new.self) (take taken bytes) (take n (take (length bytes - taken) (drop taken bytes))) before.appended write.written in
+    let front = take-add_range bytes taken count write.bound.0 before.within in
+    let both =
+    Appends-trans (written c.args.out.now) (written c.loop-taken.out) (written c.write.new.self) (take taken bytes)
+    (take count (take (length bytes - taken) (drop taken bytes))) before.appended write.written in
     record {
       within = front.0;
       appended = subst (λ (l : List ℕ). Appends (written c.args.out.now) (written c.write.new.self) l) front.1 both;

@@ -8,6 +8,8 @@ use Rattle.outside.proofs.steady.SteadyInputsInputs.start.Goals as goal
 pub returns-in-None-clause-left : goal.returns-in-None-clause-left
 returns-in-None-clause-left c =
     let files : Files = c.args.self.now.files in
-    let same : files_of c.deref.result.now ≡ files = ap files_of c.deref.ensures.value ∙ ap (λ (shelf : Shelf). shelf.files) c.self.view_is in
-    let gone : has_file files c.args.name.now ≡ false = subst (λ (all : Files). has_file all c.args.name.now ≡ false) same c.in-None.ensures in
+    let same : files_of c.deref.result.now ≡ files =
+    ap files_of c.deref.ensures.value ∙ ap (λ (shelf : Shelf). shelf.files) c.self.view_is in
+    let gone : has_file files c.args.name.now ≡ false =
+    subst (λ (all : Files). has_file all c.args.name.now ≡ false) same c.in-None.ensures in
     record { content = ap Some (sym (bytes_of-absent files c.args.name.now gone)); nothing = tt; told = λ _. refl }

@@ -42,6 +42,7 @@ nothing_more told mid rest bytes buffer count none first then_on =
 pub no_memory : (file room : ℕ) (told : Option (List ℕ)) → AnswersTold file room told (Err NoMemory)
 no_memory file room told = let bytes = some_bytes told in (bytes.0, bytes.1, tt)
 
+-- a read fault says nothing of them either
 pub read_fault : (file room : ℕ) (told : Option (List ℕ)) → AnswersTold file room told (Err (ReadFault file))
 read_fault file room told = let bytes = some_bytes told in (bytes.0, bytes.1, refl)
 

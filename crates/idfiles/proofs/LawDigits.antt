@@ -44,6 +44,7 @@ pub record IsLonger (bs : List ℕ) (i : ℕ) : Type 0 where
   pub digits : list_all is_ascii_digit (take (i + 1) bs) ≡ true
   pub value : digits_value 10 (take i bs) * 10 + (get_or bs i 0 - 48) ≡ digits_value 10 (take (i + 1) bs)
 
+-- a digit behind a front of digits makes it one digit longer
 pub longer : (bs : List ℕ) (i : ℕ) → i < length bs → list_all is_ascii_digit (take i bs) ≡ true → is_ascii_digit (get_or bs i 0) ≡ true
     → IsLonger bs i
 longer bs i within digits ten = record {

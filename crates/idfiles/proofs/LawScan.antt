@@ -77,6 +77,7 @@ state_of-ended (line.Id id) scan records = go (scan.room == 0) where
   go true = refl
   go false = refl
 
+-- bytes behind bytes change the state one after the other
 pub after_bytes-append : (state : LineState) (xs ys : List ℕ) → after_bytes state (xs ++ ys) ≡ after_bytes (after_bytes state xs) ys
 after_bytes-append state [] ys = refl
 after_bytes-append state (x ∷ xs) ys = after_bytes-append (after_byte state x) xs ys

@@ -11,6 +11,7 @@ use Rattle.idfiles.specs.declared.id_record.IdRecord.{IdRecord}
 use Rattle.idfiles.specs.declared.fault.IdFault.{IdFault}
 use Rattle.idfiles.specs.declared.fault.IdFault.TheVariants.{BadLine, TooLong, TooMany}
 
+-- whether there is no byte
 abbrev pub is_empty : List ℕ → Bool
 is_empty [] = true
 is_empty (b ∷ bytes) = false
@@ -34,7 +35,8 @@ before_blanks (b ∷ bytes) =
 -- 1 to 20 digits, whose value fits 64 bits
 abbrev pub is_id : List ℕ → Bool
 is_id rest =
-    list_all is_ascii_digit rest && nat_le (length rest) 20 && nat_lt (digits_value 10 rest) (2 ^ 64)
+    list_all is_ascii_digit rest && nat_le (length rest) 20
+    && nat_lt (digits_value 10 rest) (2 ^ 64)
 
 -- what is left of a line: nothing, an id, or a bad line
 abbrev pub judged : List ℕ → Line

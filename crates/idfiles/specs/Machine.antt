@@ -13,6 +13,7 @@ with_digit count value b =
     let more = value * 10 + (b - 48) in
     if nat_lt count 20 && nat_lt more (2 ^ 64) then Digits (count + 1) more else Bad
 
+-- the state of the line once this byte has come
 abbrev pub after_byte : LineState → ℕ → LineState
 after_byte Blank b =
     if is_blank b then Blank
@@ -35,6 +36,7 @@ keeps_at_blanks BlankCr = false
 keeps_at_blanks (IdCr value) = false
 keeps_at_blanks Bad = false
 
+-- the state once these bytes have come, in order
 abbrev pub after_bytes : LineState → List ℕ → LineState
 after_bytes state [] = state
 after_bytes state (b ∷ bytes) = after_bytes (after_byte state b) bytes

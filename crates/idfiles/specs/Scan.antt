@@ -14,6 +14,7 @@ use Rattle.idfiles.specs.declared.scan.Scan.{Scan}
 abbrev pub Read : Type 0
 Read = Result (Scan × List IdRecord) IdFault
 
+-- reading goes on from the scan and the records so far, and a fault stays
 infixl 10 ◌>>=◌
 abbrev pub ◌>>=◌ : Read → (Scan × List IdRecord → Read) → Read
 (Ok x) >>= f = f x
@@ -28,6 +29,7 @@ abbrev pub next_line : Scan → ℕ → Scan
 next_line scan room =
     record { file = scan.file; room = room; line = scan.line + 1; state = state.Blank }
 
+-- the line ends and is this: an id gives a record or finds no room, and a bad line is a fault
 abbrev pub ended_as : Line → Scan → List IdRecord → Read
 ended_as line.Blank scan records = Ok (next_line scan scan.room, records)
 ended_as line.Bad scan records = Err (BadLine scan.file scan.line)

@@ -13,10 +13,12 @@ keeps None = tt
 keeps (Some bytes) = refl
 
 -- nothing is read and nothing written
-pub Ends-unread : (told : Option Files) (words : List (List ℕ)) (before : Option (List ℕ)) (test : Bool) (fault : Fault) → MayRefuse test fault
-    → Ends told words before before (Err fault)
-Ends-unread told words before test NoMemory may = (map (content_in told) (files_named words), are-some told (files_named words), (tt, keeps before))
-Ends-unread told words before test BadWords may = (map (content_in told) (files_named words), are-some told (files_named words), (tt, keeps before))
+pub Ends-unread : (told : Option Files) (words : List (List ℕ)) (before : Option (List ℕ)) (test : Bool) (fault : Fault)
+    → MayRefuse test fault → Ends told words before before (Err fault)
+Ends-unread told words before test NoMemory may =
+    (map (content_in told) (files_named words), are-some told (files_named words), (tt, keeps before))
+Ends-unread told words before test BadWords may =
+    (map (content_in told) (files_named words), are-some told (files_named words), (tt, keeps before))
 Ends-unread told words before test (BadLine file line) may = absurd may
 Ends-unread told words before test (Read file) may = absurd may
 Ends-unread told words before test (TooLong file) may = absurd may

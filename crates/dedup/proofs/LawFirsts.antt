@@ -24,20 +24,23 @@ IsFirst-more read more first is =
 -- no record has an id that isn't among theirs
 pub first_of-absent : (read : List IdRecord) (id : ℕ) → list_any (λ y. nat_eq y id) (ids_of read) ≡ false → first_of id read ≡ None
 first_of-absent [] id absent = refl
-first_of-absent (one ∷ read) id absent = elim (nat_eq one.id id) as (λ b. (b || list_any (λ y. nat_eq y id) (ids_of read)) ≡ false → cond b (Some one) (first_of id read) ≡ None) [
-  | true ↦ λ e. absurd (false≢true (sym e))
-  | false ↦ λ e. first_of-absent read id e
-] absent
+first_of-absent (one ∷ read) id absent = elim (nat_eq one.id id)
+    as (λ b. (b || list_any (λ y. nat_eq y id) (ids_of read)) ≡ false → cond b (Some one) (first_of id read) ≡ None) [
+      | true ↦ λ e. absurd (false≢true (sym e))
+      | false ↦ λ e. first_of-absent read id e
+    ] absent
 
 -- the record behind others of other ids is the first of its id
-IsFirst-last : (read : List IdRecord) (last : IdRecord) → set.contains (keys_set (ids_of read)) last.id ≡ false → IsFirst (read ++ last ∷ []) last
+IsFirst-last : (read : List IdRecord) (last : IdRecord) → set.contains (keys_set (ids_of read)) last.id ≡ false
+    → IsFirst (read ++ last ∷ []) last
 IsFirst-last read last absent =
     let none = first_of-absent read last.id (sym (set.contains-from_list_nat (ids_of read) last.id) ∙ absent) in
     let here : first_of last.id (last ∷ []) ≡ Some last = ap (λ b. cond b (Some last) None) (nat_eq_equiv.refl last.id) in
     find-append (λ other. other.id == last.id) read (last ∷ []) ∙ ap (λ o. option_or o (first_of last.id (last ∷ []))) none ∙ here
 
 -- a number that isn't in the set is equal to none of the ids
-none_of : (records : List IdRecord) (id : ℕ) → set.contains (keys_set (ids_of records)) id ≡ false → list_any (nat_eq id) (ids_of records) ≡ false
+none_of : (records : List IdRecord) (id : ℕ) → set.contains (keys_set (ids_of records)) id ≡ false
+    → list_any (nat_eq id) (ids_of records) ≡ false
 none_of records id absent =
     ap (λ p. list_any p (ids_of records)) (λ i y. nat_eq_equiv.symm id y i) ∙ sym (set.contains-from_list_nat (ids_of records) id) ∙ absent
 
@@ -53,7 +56,8 @@ ids-rise [] rises i j d low within = absurd (omega (arith, within))
 ids-rise (one ∷ sorted) rises i j d low within =
     let all : List IdRecord = one ∷ sorted in
     let inside : j < length all = omega (arith, within, length-map all (λ r. r.id)) in
-    let at : (k : ℕ) → k < length all → slice_index_or (ids_of all) k d ≡ (slice_index_or all k one).id = λ k below. get_or-map (λ r. r.id) all k one d below in
+    let at : (k : ℕ) → k < length all → slice_index_or (ids_of all) k d ≡ (slice_index_or all k one).id =
+    λ k below. get_or-map (λ r. r.id) all k one d below in
     omega (arith, rises i j one low inside, at i (omega (arith, low, inside)), at j inside)
 
 -- all first records stay so
@@ -61,22 +65,26 @@ first-more : (read firsts : List IdRecord) (last : IdRecord) → All (IsFirst re
 first-more read firsts last all k d within = IsFirst-more read (last ∷ []) _ (all k d within)
 
 -- the set of ids with one record more
-pub ids_of-push : (read : List IdRecord) (last : IdRecord) → keys_set (ids_of (read ++ last ∷ [])) ≡ set.insert (keys_set (ids_of read)) last.id
+pub ids_of-push : (read : List IdRecord) (last : IdRecord)
+    → keys_set (ids_of (read ++ last ∷ [])) ≡ set.insert (keys_set (ids_of read)) last.id
 ids_of-push read last =
-    ap keys_set (map-append (λ r. r.id) read (last ∷ [])) ∙ set.from_list_push nat_cmp_total set.nat_cmp-IsAntisymmetric (ids_of read) last.id
+    ap keys_set (map-append (λ r. r.id) read (last ∷ []))
+    ∙ set.from_list_push nat_cmp_total set.nat_cmp-IsAntisymmetric (ids_of read) last.id
 
 -- a record of a new id
-pub AreChanging-new : (read firsts : List IdRecord) (last : IdRecord) → AreChanging read firsts → set.contains (keys_set (ids_of read)) last.id ≡ false
-    → AreChanging (read ++ last ∷ []) (firsts ++ last ∷ [])
+pub AreChanging-new : (read firsts : List IdRecord) (last : IdRecord) → AreChanging read firsts
+    → set.contains (keys_set (ids_of read)) last.id ≡ false → AreChanging (read ++ last ∷ []) (firsts ++ last ∷ [])
 AreChanging-new read firsts last so_far absent = record {
-  differ = subst (IsDistinct nat_eq) (sym (map-append (λ r. r.id) firsts (last ∷ []))) (IsDistinct-push nat_eq_equiv (ids_of firsts) last.id so_far.differ (none_of firsts last.id (ap (λ s. set.contains s last.id) so_far.same ∙ absent)));
+  differ = subst (IsDistinct nat_eq) (sym (map-append (λ r. r.id) firsts (last ∷ [])))
+      (IsDistinct-push nat_eq_equiv (ids_of firsts) last.id so_far.differ
+      (none_of firsts last.id (ap (λ s. set.contains s last.id) so_far.same ∙ absent)));
   same = ids_of-push firsts last ∙ ap (λ s. set.insert s last.id) so_far.same ∙ sym (ids_of-push read last);
   first = All-push (IsFirst (read ++ last ∷ [])) firsts last (first-more read firsts last so_far.first) (IsFirst-last read last absent);
 }
 
 -- a record of an id that was read already
-pub AreChanging-old : (read firsts : List IdRecord) (last : IdRecord) → AreChanging read firsts → set.contains (keys_set (ids_of read)) last.id ≡ true
-    → AreChanging (read ++ last ∷ []) firsts
+pub AreChanging-old : (read firsts : List IdRecord) (last : IdRecord) → AreChanging read firsts
+    → set.contains (keys_set (ids_of read)) last.id ≡ true → AreChanging (read ++ last ∷ []) firsts
 AreChanging-old read firsts last so_far there = record {
   differ = so_far.differ;
   same = so_far.same ∙ sym (insert-present (keys_set (ids_of read)) last.id there) ∙ sym (ids_of-push read last);
@@ -84,8 +92,8 @@ AreChanging-old read firsts last so_far there = record {
 }
 
 -- sorted by id they are the first records
-pub AreFirsts-sorted : (records firsts sorted : List IdRecord) → AreChanging records firsts → IsPermutation firsts sorted → IsNonDecreasingBy (λ r. r.id) sorted
-    → AreFirsts records sorted
+pub AreFirsts-sorted : (records firsts sorted : List IdRecord) → AreChanging records firsts → IsPermutation firsts sorted
+    → IsNonDecreasingBy (λ r. r.id) sorted → AreFirsts records sorted
 AreFirsts-sorted records firsts sorted changing moved rises =
     let ids = IsPermutation-map (λ r. r.id) firsts sorted moved in
     let differ = IsDistinct-IsPermutation nat_eq nat_eq_equiv.symm (ids_of firsts) (ids_of sorted) ids changing.differ in
@@ -106,6 +114,8 @@ pub AreChanging-push : (read firsts : List IdRecord) (last : IdRecord) (answer :
     → AreChanging (read ++ last ∷ []) (if answer then firsts ++ last ∷ [] else firsts)
 AreChanging-push read firsts last answer so_far is =
     elim (cases_Bool (set.contains (keys_set (ids_of read)) last.id)) [
-      | inl there ↦ subst (λ b. AreChanging (read ++ last ∷ []) (if b then firsts ++ last ∷ [] else firsts)) (sym (is ∙ ap not there)) (AreChanging-old read firsts last so_far there)
-      | inr absent ↦ subst (λ b. AreChanging (read ++ last ∷ []) (if b then firsts ++ last ∷ [] else firsts)) (sym (is ∙ ap not absent)) (AreChanging-new read firsts last so_far absent)
+      | inl there ↦ subst (λ b. AreChanging (read ++ last ∷ []) (if b then firsts ++ last ∷ [] else firsts)) (sym (is ∙ ap not there))
+          (AreChanging-old read firsts last so_far there)
+      | inr absent ↦ subst (λ b. AreChanging (read ++ last ∷ []) (if b then firsts ++ last ∷ [] else firsts)) (sym (is ∙ ap not absent))
+          (AreChanging-new read firsts last so_far absent)
     ]

@@ -21,7 +21,8 @@ record IsOne (value : List ℕ) : Type 0 where
 
 parts_of : (value : List ℕ) → is_one value ≡ true → IsOne value
 parts_of value e =
-    let outer = and_parts (nat_lt 0 (length value) && nat_le (length value) 3) (list_all is_ascii_digit value && digits_value 10 value == 1) e in
+    let outer = and_parts (nat_lt 0 (length value) && nat_le (length value) 3)
+    (list_all is_ascii_digit value && digits_value 10 value == 1) e in
     let count = and_parts (nat_lt 0 (length value)) (nat_le (length value) 3) outer.0 in
     let inner = and_parts (list_all is_ascii_digit value) (digits_value 10 value == 1) outer.1 in
     record { few = leb-true (length value) 3 count.1; digits = inner.0; value_is = eqb-true (digits_value 10 value) 1 inner.1 }

@@ -17,7 +17,8 @@ IsRow-only words room =
     record { within = one.within; count = one.count; rising = one.rising; fits = room.fits }
 
 -- while another block is written it stays so
-pub IsRow-drawn : (words now : List ℕ) (len : ℕ) (block : List ℕ) → HasRoom words → HasDrawn words now len block → IsRow now (only_row words)
+pub IsRow-drawn : (words now : List ℕ) (len : ℕ) (block : List ℕ) → HasRoom words → HasDrawn words now len block
+    → IsRow now (only_row words)
 IsRow-drawn words now len block room have =
     let one = one_row words room.well_formed room.single in
     let keys = only_row-keys one have in
@@ -47,5 +48,6 @@ IsPlaceFor-stop keys key place rising within before here = record {
 }
 
 -- all keys were passed
-pub IsPlaceFor-end : (keys : List ℕ) (key place : ℕ) → place ≡ length keys → ((k : ℕ) → k < place → slice_index keys k < key) → IsPlaceFor key keys place
+pub IsPlaceFor-end : (keys : List ℕ) (key place : ℕ) → place ≡ length keys → ((k : ℕ) → k < place → slice_index keys k < key)
+    → IsPlaceFor key keys place
 IsPlaceFor-end keys key place end before = record { within = omega arith; before = before; behind = λ k from inside. absurd (omega arith) }

@@ -24,8 +24,9 @@ use Rattle.dedup.specs.declared.load.TheConstants.{RECORDS}
 use Rattle.dedup.specs.declared.table.TheConstants.{END}
 
 -- the members are one set
-same_members : (words : List ℕ) (s t : set.FinSet nat_cmp) → HasMembers words s → HasMembers words t → s ≡ t
-same_members words s t one other = set.same_set nat_cmp_total set.nat_cmp-IsAntisymmetric s t (λ key. one key ∙ sym (other key))
+same_members : (words : List ℕ) (left right : set.FinSet nat_cmp) → HasMembers words left → HasMembers words right → left ≡ right
+same_members words left right one other =
+    set.same_set nat_cmp_total set.nat_cmp-IsAntisymmetric left right (λ key. one key ∙ sym (other key))
 
 -- the id is there already
 pub HasTaken-present : (words : List ℕ) (place id : ℕ) → HasRoom words → place < length (row_keys words (only_row words))
@@ -71,7 +72,8 @@ HasTaken-absent words later place id room free replaced =
 
 -- a row of the old keys and the id is ready to take the place of the old one
 pub IsReady-longer : (words now : List ℕ) (place id : ℕ) → HasRoom words → IsPlaceFor id (row_keys words (only_row words)) place
-    → HasBuilt words now (insert (row_keys words (only_row words)) place id) → IsReady words now (insert (row_keys words (only_row words)) place id)
+    → HasBuilt words now (insert (row_keys words (only_row words)) place id)
+    → IsReady words now (insert (row_keys words (only_row words)) place id)
 IsReady-longer words now place id room free built =
     let one = one_row words room.well_formed room.single in
     let old = row_keys words (only_row words) in
@@ -91,8 +93,8 @@ next_of-opening : (cap : ℕ) → next_of (opening_of 1 cap []) ≡ opening_word
 next_of-opening cap = refl
 
 -- an opening holds nothing
-pub HoldsFew-opening : (words : List ℕ) (cap : ℕ) → opening_words 1 [] ≤ cap → words ≡ opening_of 1 cap [] → IsWellFormed words → HasMembers words set.empty
-    → HoldsFew words cap (keys_set []) 0
+pub HoldsFew-opening : (words : List ℕ) (cap : ℕ) → opening_words 1 [] ≤ cap → words ≡ opening_of 1 cap [] → IsWellFormed words
+    → HasMembers words set.empty → HoldsFew words cap (keys_set []) 0
 HoldsFew-opening words cap fits is well members = record {
   well_formed = well;
   single = subst HasOneBucket (sym is) (opening-one_bucket 1 cap fits);
@@ -103,7 +105,8 @@ HoldsFew-opening words cap fits is well members = record {
 }
 
 -- there is room for one more id
-pub HasRoom-few : (words : List ℕ) (keys : set.FinSet nat_cmp) (records : ℕ) → HoldsFew words END keys records → records < RECORDS → HasRoom words
+pub HasRoom-few : (words : List ℕ) (keys : set.FinSet nat_cmp) (records : ℕ) → HoldsFew words END keys records
+    → records < RECORDS → HasRoom words
 HasRoom-few words keys records few more = record {
   well_formed = few.well_formed;
   single = few.single;
@@ -112,7 +115,8 @@ HasRoom-few words keys records few more = record {
 }
 
 -- one more id was taken
-pub HoldsFew-more : (words later : List ℕ) (keys : set.FinSet nat_cmp) (records id : ℕ) (answer : Bool) → HoldsFew words END keys records → records < RECORDS → HasTaken words later id answer
+pub HoldsFew-more : (words later : List ℕ) (keys : set.FinSet nat_cmp) (records id : ℕ) (answer : Bool)
+    → HoldsFew words END keys records → records < RECORDS → HasTaken words later id answer
     → HoldsFew later END (set.insert keys id) (records + 1)
 HoldsFew-more words later keys records id answer few more taken = record {
   well_formed = taken.well_formed;
@@ -124,5 +128,6 @@ HoldsFew-more words later keys records id answer few more taken = record {
 }
 
 -- the keys that are listed are the ids
-pub keys_set-listed : (words keys ids : List ℕ) → HasMembers words (keys_set keys) → HasMembers words (keys_set ids) → keys_set keys ≡ keys_set ids
+pub keys_set-listed : (words keys ids : List ℕ) → HasMembers words (keys_set keys) → HasMembers words (keys_set ids)
+    → keys_set keys ≡ keys_set ids
 keys_set-listed words keys ids listed members = same_members words (keys_set keys) (keys_set ids) listed members

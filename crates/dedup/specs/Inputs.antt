@@ -14,12 +14,13 @@ abbrev pub records_from : ℕ → List (List ℕ) → List IdRecord
 records_from number [] = []
 records_from number (bytes ∷ files) = records_of number bytes ++ records_from (number + 1) files
 
--- The first fault of files in the order of their bytes. The first file has this number, and there is room
--- for so many records.
+-- The first fault of files in the order of their bytes. The first file has this number, and there
+-- is room for so many records.
 abbrev pub fault_from : ℕ → ℕ → List (List ℕ) → Option IdFault
 fault_from number room [] = None
 fault_from number room (bytes ∷ files) =
-    option_or (first_fault number room bytes) (fault_from (number + 1) (room - length (records_of number bytes)) files)
+    option_or (first_fault number room bytes)
+    (fault_from (number + 1) (room - length (records_of number bytes)) files)
 
 -- the records of a run's files
 abbrev pub run_records : List (List ℕ) → List IdRecord
@@ -34,10 +35,12 @@ pub record AreContents (told : Option Files) (names contents : List (List ℕ)) 
   pub each : length contents ≡ length names
   pub same : IfSome told (λ files. contents ≡ map (bytes_of files) names)
 
--- The answer for files of these contents: all records where there is no fault, else the first fault, unless
--- memory runs out or a read fails. The files before one whose read fails have no fault.
+-- The answer for files of these contents: all records where there is no fault, else the first
+-- fault, unless memory runs out or a read fails. The files before one whose read fails have no
+-- fault.
 abbrev pub AnswersAll : List (List ℕ) → Result (Vec IdRecord Global) IdFault → Type 0
-AnswersAll contents (Ok records) = (run_fault contents ≡ None) × (records.items ≡ run_records contents)
+AnswersAll contents (Ok records) =
+    (run_fault contents ≡ None) × (records.items ≡ run_records contents)
 AnswersAll contents (Err NoMemory) = Unit {0}
 AnswersAll contents (Err (ReadFault file)) =
     (0 < file) × (file ≤ length contents) × (run_fault (take (file - 1) contents) ≡ None)
@@ -46,11 +49,14 @@ AnswersAll contents (Err (TooLong file)) = run_fault contents ≡ Some (TooLong 
 AnswersAll contents (Err TooMany) = run_fault contents ≡ Some TooMany
 
 -- the same for the files of these names
-abbrev pub AnswersFiles : Option Files → List (List ℕ) → Result (Vec IdRecord Global) IdFault → Type 0
-AnswersFiles told names result = (contents : List (List ℕ)) × AreContents told names contents × AnswersAll contents result
+abbrev pub AnswersFiles : Option Files → List (List ℕ) → Result (Vec IdRecord Global) IdFault
+    → Type 0
+AnswersFiles told names result =
+    (contents : List (List ℕ)) × AreContents told names contents × AnswersAll contents result
 
 -- the files before this place have no fault, and these are their records
-pub record HasLoaded (told : Option Files) (names : List (List ℕ)) (place : ℕ) (records : List IdRecord) : Type 0 where
+pub record HasLoaded (told : Option Files) (names : List (List ℕ)) (place : ℕ)
+    (records : List IdRecord) : Type 0 where
   pub contents : List (List ℕ)
   pub are : AreContents told (take place names) contents
   pub none : run_fault contents ≡ None

@@ -6,8 +6,8 @@ use Rattle.dedup.specs.declared.command.Listing.TheVariants.{Keep, Ids, Count}
 
 -- an id, and the file and the line where it stands
 abbrev pub keep_line : IdRecord → List ℕ
-keep_line r =
-    decimal r.id ++ codes " " ++ decimal r.file ++ codes ":" ++ decimal r.line ++ codes "\n"
+keep_line item = decimal item.id
+    ++ codes " " ++ decimal item.file ++ codes ":" ++ decimal item.line ++ codes "\n"
 
 -- an id
 abbrev pub id_line : ℕ → List ℕ

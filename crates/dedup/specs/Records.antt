@@ -7,7 +7,7 @@ use Rattle.idfiles.specs.declared.id_record.IdRecord.{IdRecord}
 
 -- the ids of records
 abbrev pub ids_of : List IdRecord → List ℕ
-ids_of records = map (λ record_. record_.id) records
+ids_of records = map (λ item. item.id) records
 
 -- the first record of this id
 abbrev pub first_of : ℕ → List IdRecord → Option IdRecord

@@ -31,11 +31,12 @@ pub record HasRoom (words : List ℕ) : Type 0 where
   pub room : next_of words + FIRST_KEY + size_of words + 1 ≤ length words
   pub fits : length words < 2 ^ 63
 
--- the id was made a member, with the answer of a plain set, and at most one row with one more key was drawn
+-- the id was made a member, with a plain set's answer; at most one row with one key more was drawn
 pub record HasTaken (old new : List ℕ) (id : ℕ) (answer : Bool) : Type 0 where
   pub well_formed : IsWellFormed new
   pub single : HasOneBucket new
-  pub members : (keys : FinSet nat_cmp) → HasMembers old keys → HasMembers new (set_after_call Insert id keys)
+  pub members : (keys : FinSet nat_cmp) → HasMembers old keys
+      → HasMembers new (set_after_call Insert id keys)
   pub answered : (keys : FinSet nat_cmp) → HasMembers old keys → answer ≡ answer_of Insert id keys
   pub size : size_of new ≤ size_of old + 1
   pub next : next_of new ≤ next_of old + FIRST_KEY + size_of old + 1

@@ -26,7 +26,7 @@ option_rule name = record (new_rule name) { long = Some name; action = Some Set 
 abbrev pub file_rule : Rule
 file_rule = record (new_rule (codes "FILE")) { action = Some Append }
 
--- the command as `clap` reads it: `dedup [--workers N] [--list LIST] FILE...`, with any texts as values
+-- the command as `clap` reads it: `dedup [--workers N] [--list LIST] FILE...`, with any values
 unfoldable pub dedup_app : App
 dedup_app = with_rule (with_rule (with_rule (new_app (codes "dedup"))
     (option_rule (codes "workers"))) (option_rule (codes "list"))) file_rule

@@ -1,9 +1,10 @@
 //! `dedup`: the distinct ids of files, rising, each once.
 //!
-//! A *run* reads its words, which are the *command*: the list that is asked for and one to 64 files. The
-//! files' lines give *records*: an id with its file and line. It ends with a *status*: 0 where the list was
-//! printed, else the number of its *fault*, which it reports by one line on the fault sink. `run` carries
-//! the whole as its contract. The smallest use is the test `prints_each_id_once`.
+//! A *run* reads its words, which are the *command*: the list that is asked for and one to 64
+//! files. The files' lines give *records*: an id with its file and line. It ends with a *status*: 0
+//! where the list was printed, else the number of its *fault*, which it reports by one line on the
+//! fault sink. `run` carries the whole as its contract. The smallest use is the test
+//! `prints_each_id_once`.
 #![tactic(auto)]
 
 mod command;

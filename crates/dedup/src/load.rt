@@ -10,8 +10,8 @@ use std::alloc::Global;
 /// The most records of a run.
 pub(crate) const RECORDS: usize = 2048;
 
-/// The records of the files, in order of file and line, or the first fault in the order of their bytes.
-/// The files are numbered from 1.
+/// The records of the files, in order of file and line, or the first fault in the order of their
+/// bytes. The files are numbered from 1.
 pub(crate) fn load<I: Inputs>(
     alloc: Global,
     inputs: &mut I,

@@ -18,15 +18,15 @@ use std::thread::Threads;
 /// How a run ended.
 #[derive(Clone, Copy, Debug, PartialEq, Eq)]
 pub struct Ended {
-    /// 0 where the list was written; 1 out of memory; 2 the words are not the command; 3 a line of a file is
-    /// bad; 4 a file could not be read; 5 the output could not be written; 6 a file is too long, or the
-    /// records are too many.
+    /// 0 where the list was written; 1 out of memory; 2 the words are not the command; 3 a line of
+    /// a file is bad; 4 a file could not be read; 5 the output could not be written; 6 a file is
+    /// too long, or the records are too many.
     pub status: u8,
 }
 
-/// Prints the list that the words ask for: of the distinct ids of their files, rising, each once. Otherwise
-/// it ends with the status of its first fault, whose line it writes to the fault sink; a fault there changes
-/// no status.
+/// Prints the list that the words ask for: of the distinct ids of their files, rising, each once.
+/// Otherwise it ends with the status of its first fault, whose line it writes to the fault sink; a
+/// fault there changes no status.
 pub fn run<R: Threads + Sync, I: Inputs, O: Sink, E: Sink, G: Gate>(
     _rt: &R,
     alloc: Global,
@@ -74,14 +74,8 @@ fn print_list<I: Inputs, O: Sink>(
         (I.faults inputs.old) (I.faults inputs.new) (O.faults out.old) (O.faults out.new) }
     ensures silent { IsSilent (status_of result) (O.written out.old) (O.written out.new) }
 {
-    let asked = match read_words(alloc, words) {
-        Ok(asked) => asked,
-        Err(fault) => return Err(fault),
-    };
-    let text = match list_of(alloc, inputs, &asked) {
-        Ok(text) => text,
-        Err(fault) => return Err(fault),
-    };
+    let asked = read_words(alloc, words)?;
+    let text = list_of(alloc, inputs, &asked)?;
     match write_whole(out, &text) {
         Ok(()) => Ok(()),
         Err(_) => Err(Fault::Write),
@@ -95,10 +89,7 @@ fn list_of<I: Inputs>(alloc: Global, inputs: &mut I, asked: &Command<'_>) -> Res
         (map (λ name. name.now) asked.now.files.items) asked.now.listing result }
     ensures read { status_of result ≡ 4 → Rose (I.faults inputs.old) (I.faults inputs.new) }
 {
-    let records = match load(alloc, inputs, &asked.files) {
-        Ok(records) => records,
-        Err(fault) => return Err(fault.into()),
-    };
+    let records = load(alloc, inputs, &asked.files)?;
     let firsts = firsts(alloc, &records)?;
     Ok(text_of(alloc, asked.listing, records.len() as u64, &firsts)?)
 }

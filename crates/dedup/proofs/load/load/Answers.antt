@@ -16,11 +16,16 @@ returns-in_err-more-clause-answer g c =
     let fault = c.in_err-more.field-0.0 in
     let within : place < length c.args.names.now = c.loop-place-test.true in
     let inside : place < length names = omega (arith, within, length-map c.args.names.now (λ name. name.now)) in
-    let name : get_or names place [] ≡ (get_or c.args.names.now place _).now = get_or-map (λ name. name.now) c.args.names.now place _ [] within in
-    let answer : AnswersFile (place + 1) (RECORDS - c.len.result) (g.I.Inputs.files c.loop-place.inputs) (get_or c.args.names.now place _).now (Err fault) = c.in_err-more.ensures.answer in
+    let name : get_or names place [] ≡ (get_or c.args.names.now place _).now =
+    get_or-map (λ name. name.now) c.args.names.now place _ [] within in
+    let files = g.I.Inputs.files c.loop-place.inputs in
+    let answer : AnswersFile (place + 1) (RECORDS - c.len.result) files (get_or c.args.names.now place _).now (Err fault) =
+    c.in_err-more.ensures.answer in
     let count : c.len.result ≡ length records = omega (arith, c.len.ensures, c.loop-place.records.ok) in
-    let here = answer-here (g.I.Inputs.files c.loop-place.inputs) told names place c.len.result records _ (Err fault) answer c.loop-place.invariant.files name count in
-    let refused : AnswersFiles told names (Err fault) = AnswersFiles-fault told names place records fault c.loop-place.invariant.loaded inside here in
+    let same = c.loop-place.invariant.files in
+    let here = answer-here files told names place c.len.result records _ (Err fault) answer same name count in
+    let refused : AnswersFiles told names (Err fault) =
+    AnswersFiles-fault told names place records fault c.loop-place.invariant.loaded inside here in
     let is : c.from_residual.result ≡ Err fault = search rules in
     subst (AnswersFiles told names) (sym is) refused
 
@@ -40,14 +45,20 @@ loop-place-preserved g c =
     let read = c.in_ok-more.more in
     let within : place < length c.args.names.now = c.loop-place-test.true in
     let inside : place < length names = omega (arith, within, length-map c.args.names.now (λ name. name.now)) in
-    let name : get_or names place [] ≡ (get_or c.args.names.now place _).now = get_or-map (λ name. name.now) c.args.names.now place _ [] within in
-    let answer : AnswersFile (place + 1) (RECORDS - c.len.result) (g.I.Inputs.files c.loop-place.inputs) (get_or c.args.names.now place _).now (Ok read) = c.in_ok-more.ensures.answer in
+    let name : get_or names place [] ≡ (get_or c.args.names.now place _).now =
+    get_or-map (λ name. name.now) c.args.names.now place _ [] within in
+    let files = g.I.Inputs.files c.loop-place.inputs in
+    let answer : AnswersFile (place + 1) (RECORDS - c.len.result) files (get_or c.args.names.now place _).now (Ok read) =
+    c.in_ok-more.ensures.answer in
     let count : c.len.result ≡ length records = omega (arith, c.len.ensures, c.loop-place.records.ok) in
-    let here = answer-here (g.I.Inputs.files c.loop-place.inputs) told names place c.len.result records _ (Ok read) answer c.loop-place.invariant.files name count in
+    let same = c.loop-place.invariant.files in
+    let here = answer-here files told names place c.len.result records _ (Ok read) answer same name count in
     let few : length read.items ≤ RECORDS - length records = omega (arith, c.in_ok-more.ensures.room, count, read.ok) in
-    let more = HasLoaded-more told names place records read.items here.0 c.loop-place.invariant.loaded inside here.1 here.2.0 here.2.1 few in
+    let so_far = c.loop-place.invariant.loaded in
+    let more = HasLoaded-more told names place records read.items here.0 so_far inside here.1 here.2.0 here.2.1 few in
     record {
-      loaded = subst (HasLoaded told names (place + 1)) (sym (c.in_ok-extend_from_slice.ensures.items ∙ ap (λ k. records ++ k) c.deref.ensures.value)) more;
+      loaded = subst (HasLoaded told names (place + 1))
+          (sym (c.in_ok-extend_from_slice.ensures.items ∙ ap (λ k. records ++ k) c.deref.ensures.value)) more;
       later = omega (arith, c.in_ok-more.ensures.cause.later, c.loop-place.invariant.later);
       files = c.in_ok-more.ensures.files ∙ c.loop-place.invariant.files;
     }

@@ -1,8 +1,17 @@
+use Rattle.std.proofs.Common.{◌≡◌, Err, rules, sym, subst}
+use Rattle.dedup.specs.Run.{Ends}
 use Rattle.dedup.specs.Words.{is_command, texts}
 use Rattle.dedup.proofs.LawEnds.{Ends-unread}
 use Rattle.dedup.proofs.program.print_list.Goals as goal
 
 -- the words were refused
-pub returns-in-Err-clause-ends : goal.returns-in-Err-clause-ends
-returns-in-Err-clause-ends g c =
-    Ends-unread (g.I.Inputs.files c.args.inputs.now) (texts c.args.words.now) (g.O.Sink.written c.args.out.now) (is_command (texts c.args.words.now)) c.in-Err.fault c.in-Err.ensures.refused
+pub returns-in_err-asked-clause-ends : goal.returns-in_err-asked-clause-ends
+returns-in_err-asked-clause-ends g c =
+    let told = g.I.Inputs.files c.args.inputs.now in
+    let words = texts c.args.words.now in
+    let before = g.O.Sink.written c.args.out.now in
+    let fault = c.in_err-asked.field-0.0 in
+    let refused : Ends told words before before (Err fault) =
+    Ends-unread told words before (is_command words) fault c.in_err-asked.ensures.refused in
+    let is : c.from_residual.result ≡ Err fault = search rules in
+    subst (Ends told words before before) (sym is) refused

@@ -18,11 +18,12 @@ loop-i-init c =
     let words : List ℕ = c.args.words.now in
     let keys : List ℕ = insert (row_keys words c.args.row) c.args.place c.args.id in
     let count : ℕ = c.load_sealed-count.result + 1 in
-    let long : count ≡ length keys =
-    omega (arith, c.load_sealed-count.ensures.word, c.requires.is_row.count, length-insert (row_keys words c.args.row) c.args.place c.args.id c.requires.place) in
+    let longer = length-insert (row_keys words c.args.row) c.args.place c.args.id c.requires.place in
+    let long : count ≡ length keys = omega (arith, c.load_sealed-count.ensures.word, c.requires.is_row.count, longer) in
     let start : c.draw-start.result ≡ next_of words = cc in
     let fits = c.requires.room.room in
-    let zero = drawn words c.draw-start.new.words (FIRST_KEY + count) c.requires.room.well_formed (c.draw-start.ensures.words ∙ ap (after_step (Draw (FIRST_KEY + count))) c.load_sealed-count.ensures.words) in
+    let zero = drawn words c.draw-start.new.words (FIRST_KEY + count) c.requires.room.well_formed
+    (c.draw-start.ensures.words ∙ ap (after_step (Draw (FIRST_KEY + count))) c.load_sealed-count.ensures.words) in
     let one = written zero c.write.new.words _ _ (omega (arith, start)) (omega (arith, start, fits)) c.write.ensures in
     let two = written one c.write-2.new.words _ _ (omega (arith, start)) (omega (arith, start, fits)) c.write-2.ensures in
     let three = written two c.write-3.new.words _ _ (omega (arith, start)) (omega (arith, start, fits)) c.write-3.ensures in
@@ -31,19 +32,23 @@ loop-i-init c =
 -- the old row is as it was
 pub longer_at-key-requires-clause-row : goal.longer_at-key-requires-clause-row
 longer_at-key-requires-clause-row c =
-    subst (λ (r : ℕ). IsRow c.loop-i.words r) (sym c.requires.row) (IsRow-drawn c.args.words.now c.loop-i.words _ _ c.requires.room c.loop-i.invariant)
+    subst (λ (r : ℕ). IsRow c.loop-i.words r) (sym c.requires.row)
+    (IsRow-drawn c.args.words.now c.loop-i.words _ _ c.requires.room c.loop-i.invariant)
 
 -- the old keys are as they were
 pub longer_at-key-requires-clause-place : goal.longer_at-key-requires-clause-place
 longer_at-key-requires-clause-place c =
     let words : List ℕ = c.args.words.now in
-    let same : row_keys c.loop-i.words c.args.row ≡ row_keys words c.args.row = old_keys words c.loop-i.words c.args.row _ _ c.requires.room c.requires.row c.loop-i.invariant in
+    let same : row_keys c.loop-i.words c.args.row ≡ row_keys words c.args.row =
+    old_keys words c.loop-i.words c.args.row _ _ c.requires.room c.requires.row c.loop-i.invariant in
     omega (arith, ap length same, c.requires.place)
 
+-- the next word has a key
 pub longer_at-key-requires-clause-i : goal.longer_at-key-requires-clause-i
 longer_at-key-requires-clause-i c =
     let words : List ℕ = c.args.words.now in
-    let same : row_keys c.loop-i.words c.args.row ≡ row_keys words c.args.row = old_keys words c.loop-i.words c.args.row _ _ c.requires.room c.requires.row c.loop-i.invariant in
+    let same : row_keys c.loop-i.words c.args.row ≡ row_keys words c.args.row =
+    old_keys words c.loop-i.words c.args.row _ _ c.requires.room c.requires.row c.loop-i.invariant in
     omega (arith, ap length same, c.loop-i-test.true, c.load_sealed-count.ensures.word, c.requires.is_row.count)
 
 -- one more key
@@ -69,6 +74,7 @@ loop-i-preserved c =
       step = c.write-in-loop-i.ensures ∙ ap (after_step (Write at c.longer_at-key.result)) read;
     })
 
+-- all words are written
 pub returns-clause-built : goal.returns-clause-built
 returns-clause-built c =
     let old : List ℕ = row_keys c.args.words.now c.args.row in

@@ -8,11 +8,13 @@ use Rattle.clap.specs.Words.{found_of, rows_of}
 use Rattle.dedup.specs.Words.{MayRefuse, files_in, is_file_count}
 use Rattle.dedup.proofs.words.files_in.Goals as goal
 
+-- no FILE is given
 pub returns-in-None-clause-refused : goal.returns-in-None-clause-refused
 returns-in-None-clause-refused c =
     ap (λ given. is_file_count (length (unwrap_or given [])))
     (sym (c.in-None.ensures ∙ raw_values-rows (found_of c.args.matches.now) (codes "FILE")))
 
+-- the values of FILE are the files
 pub returns-in-Some : goal.returns-in-Some
 returns-in-Some c =
     let texts_of : List (Bor (List ℕ)) → List (List ℕ) = map (λ name. name.now) in

@@ -5,11 +5,13 @@ use Rattle.clap.specs.Words.{found_of}
 use Rattle.dedup.specs.Words.{is_one}
 use Rattle.dedup.proofs.words.has_one_worker.Goals as goal
 
+-- a number of workers is given
 pub returns-in-Some : goal.returns-in-Some
 returns-in-Some c =
     c.is_one.ensures
     ∙ ap (λ given. option_map_or is_one given true) (c.in-Some.ensures ∙ first_value-rows (found_of c.args.matches.now) (codes "workers"))
 
+-- none is
 pub returns-in-None : goal.returns-in-None
 returns-in-None c =
     ap (λ given. option_map_or is_one given true) (c.in-None.ensures ∙ first_value-rows (found_of c.args.matches.now) (codes "workers"))

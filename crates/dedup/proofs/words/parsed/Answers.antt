@@ -13,6 +13,7 @@ simple : is_simple dedup_app ≡ true
 unfolding clap_on_literals dedup_app
 simple = refl
 
+-- where `clap` finds no fault there is none
 pub returns-in-Ok-clause-read : goal.returns-in-Ok-clause-read
 unfolding is_read
 returns-in-Ok-clause-read c =
@@ -20,12 +21,14 @@ returns-in-Ok-clause-read c =
     let none = c.in-Ok.ensures.kinds (ap is_simple_and_free shape ∙ simple_and_free) in
     ap (λ app. is_faultless (fault_of app (texts c.args.words.now))) (sym shape) ∙ ap is_faultless none
 
+-- its matches are what the words give
 pub returns-in-Ok-clause-rows : goal.returns-in-Ok-clause-rows
 unfolding rows_in
 returns-in-Ok-clause-rows c =
     let shape = c.in_ok-command.ensures in
     (c.in-Ok.ensures.matches (ap is_simple shape ∙ simple)).0 ∙ ap (λ app. matches_of app (texts c.args.words.now)) shape
 
+-- its error refuses only words with a fault, but for want of memory
 pub returns-in-Err-clause-refused : goal.returns-in-Err-clause-refused
 unfolding is_read
 returns-in-Err-clause-refused c =

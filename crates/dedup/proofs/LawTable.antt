@@ -126,8 +126,3 @@ HoldsFew-more words later keys records id answer few more taken = record {
   next = omega (arith, few.size, few.next, taken.next, more);
   long = taken.long ∙ few.long;
 }
-
--- the keys that are listed are the ids
-pub keys_set-listed : (words keys ids : List ℕ) → HasMembers words (keys_set keys) → HasMembers words (keys_set ids)
-    → keys_set keys ≡ keys_set ids
-keys_set-listed words keys ids listed members = same_members words (keys_set keys) (keys_set ids) listed members

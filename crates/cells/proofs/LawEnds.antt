@@ -20,7 +20,7 @@ use Rattle.cells.specs.Tokens.{PassValue}
 use Rattle.cells.specs.declared.rule.SeatView.{SeatView}
 use Rattle.cells.proofs.LawFronts.{longest_front-whole}
 use Rattle.cells.proofs.LawGathering.{views_of}
-use Rattle.cells.proofs.PartSeated.{there_inside}
+use Rattle.cells.proofs.PartViews.{there_inside}
 
 -- one element more, where the count is a successor
 take-suc_at : {A : Type 0} (list : List A) (place : ℕ) (item : A) → get_elem? list place ≡ some item

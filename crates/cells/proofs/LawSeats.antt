@@ -20,7 +20,7 @@ use Rattle.cells.specs.Known.{IsSound}
 use Rattle.cells.specs.Moves.{Moved, Moves, Tells}
 use Rattle.cells.specs.Seats.{pass_of, pass_seat, SpeaksFor, IsSeat, AreSeated, IsRuled}
 use Rattle.cells.proofs.LawSound.{sound_view}
-use Rattle.cells.proofs.PartViews.{number_below}
+use Rattle.cells.proofs.PartViews.{there_inside}
 
 -- the only pass of a seat is the one that the seat speaks for
 pub speaks_for : {views : List PassView} {history : List Entry} {seats : List SeatView} (seated : AreSeated views history seats)
@@ -36,7 +36,7 @@ module _ {views : List PassView} {past : List Entry} {seats : List SeatView} (se
   own_seat =
       let speaks = speaks_for seated id old is_seat in
       let here : get_elem? (slice_set views old.number new) old.number ≡ some new =
-      set_here views old.number new (number_below views old.number old speaks.is_view) in
+      set_here views old.number new (there_inside views old.number old speaks.is_view) in
       let after = SpeaksFor (slice_set views old.number new) seated.owner id in
       record {
         front = (history, refl);
@@ -106,7 +106,7 @@ module _ (facts : RoundFacts) (id : ℕ) (table : State ℕ SeatView) (ruled : I
   stays_sound : (words : List ℕ) (moved : Moved facts words ruled.state ruled.history old told) → IsSound moved.view
   stays_sound words moved = sound_view moved.holds old.number moved.view
       (ap (λ (views : List PassView). get_elem? views old.number) moved.views
-      ∙ set_here ruled.state.views old.number moved.view (number_below ruled.state.views old.number old is_view))
+      ∙ set_here ruled.state.views old.number moved.view (there_inside ruled.state.views old.number old is_view))
 
 -- what the pass may do in the round, and is told of it, its seat may do at the table, and is told
 pub pass_allows : (facts : RoundFacts) (slots id : ℕ) (me : Me ℕ SeatView) (place : ℕ) (change : ℕ → ℕ) (kind : Step)

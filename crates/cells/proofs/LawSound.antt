@@ -18,7 +18,7 @@ use Rattle.step_core.specs.declared.views.PassView.{PassView}
 use Rattle.step_core.specs.declared.views.RoundFacts.{RoundFacts}
 use Rattle.cells.specs.Invariant.{HoldsRound}
 use Rattle.cells.specs.Known.{known_block, KnowsBlock, KnowsRow, IsInArena, IsInHand, IsInBlock, HoldsClass, AreSmall, IsSound}
-use Rattle.cells.proofs.PartViews.{IsPublished, number_below}
+use Rattle.cells.proofs.PartViews.{IsPublished, there_inside}
 
 -- each kind of block has a word
 pub some_word : (block : Published) → 0 < block_len block
@@ -61,7 +61,7 @@ module _ {facts : RoundFacts} {words : List ℕ} {state : RoundState} {history :
   has_seat =
       let pass : view.number ≡ number = (round.fits.numbered number view is_view).is_pass in
       let seats : view.facts.seats ≡ facts.seats = ap (λ (facts : RoundFacts). facts.seats) same_round in
-      let below : number < length state.views = number_below state.views number view is_view in
+      let below : number < length state.views = there_inside state.views number view is_view in
       let all : length state.views ≡ facts.seats = round.fits.passes in
       omega arith
 

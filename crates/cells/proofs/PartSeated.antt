@@ -1,5 +1,5 @@
 -- No pass has two seats, also after a seat is cut in two or took in another.
-use Rattle.std.proofs.Common.{◌≡◌, ◌≢◌, ℕ, zero, suc, ◌<◌, Bool, true, false, cond, nat_eq, List, [], ◌∷◌, ◌++◌, length, slice_set, refl, sym, ap, ◌∙◌, subst, arith, inl, inr, ◌⊎◌, ⊎_elim, All}
+use Rattle.std.proofs.Common.{◌≡◌, ◌≢◌, ℕ, zero, suc, Bool, true, false, cond, nat_eq, List, [], ◌∷◌, ◌++◌, length, slice_set, refl, sym, ap, ◌∙◌, subst, arith, length-set, inl, inr, ◌⊎◌, ⊎_elim, All}
 use mathlib.Core.List.{IsPrefix}
 use mathlib.Core.Option.{some, some-injective, some-ne-none}
 use lib.ListN.{get_elem?}
@@ -19,18 +19,6 @@ at_more [] last item (suc place) is = absurd (some-ne-none item (sym is))
 at_more (first ∷ others) last item zero is = inl is
 at_more (first ∷ others) last item (suc place) is =
     ⊎_elim (λ t. inl t) (λ (t : (place ≡ length others) × (last ≡ item)). inr (ap suc t.0, t.1)) (at_more others last item place is)
-
--- a place that is read is inside
-pub there_inside : {A : Type 0} (list : List A) (place : ℕ) (item : A) → get_elem? list place ≡ some item → place < length list
-there_inside [] place item is = absurd (some-ne-none item (sym is))
-there_inside (first ∷ others) zero item is = omega arith
-there_inside (first ∷ others) (suc place) item is = omega (arith, there_inside others place item is)
-
--- a list with another item at a place is as long
-length-at : {A : Type 0} (list : List A) (place : ℕ) (item : A) → length (slice_set list place item) ≡ length list
-length-at [] place item = refl
-length-at (first ∷ others) zero item = refl
-length-at (first ∷ others) (suc place) item = ap suc (length-at others place item)
 
 -- the owner after one pass got another seat
 abbrev handed : (ℕ → ℕ) → ℕ → ℕ → ℕ → ℕ
@@ -157,7 +145,7 @@ module _ (views : List PassView) (history : List Entry) where
             ]
             | inr last ↦
                 subst (λ (z : ℕ × SeatView). IsSeat views history cut_owner z.0 z.1)
-                (λ i. (sym (last.0 ∙ length-at seats id rest) i, last.1 i)) new_seated
+                (λ i. (sym (last.0 ∙ length-set seats id rest) i, last.1 i)) new_seated
           ]
 
       -- the first pass of a seat may get a seat of its own

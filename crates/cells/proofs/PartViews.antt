@@ -21,11 +21,11 @@ use Rattle.cells.specs.Moves.{Moved}
 use Rattle.cells.specs.Past.{HoldsHistory, BeginsHistory, IsSeenWhole, OwnsEntries, flying_entry}
 use Rattle.cells.specs.Paid.{IsPaid, ArePaid, wins_of}
 
--- a number in the list is below its length
-pub number_below : (views : List PassView) (number : ℕ) (view : PassView) → get_elem? views number ≡ some view → number < length views
-number_below [] number view there = absurd (some-ne-none view (sym there))
-number_below (first ∷ views) zero view there = omega arith
-number_below (first ∷ views) (suc number) view there = let less = number_below views number view there in omega arith
+-- what stands at a place of a list stands inside it
+pub there_inside : {A : Type 0} (list : List A) (place : ℕ) (item : A) → get_elem? list place ≡ some item → place < length list
+there_inside [] place item is = absurd (some-ne-none item (sym is))
+there_inside (first ∷ others) zero item is = omega arith
+there_inside (first ∷ others) (suc place) item is = omega (arith, there_inside others place item is)
 
 -- what holds of each view holds still where it holds of the one put in
 pub each_put : (Fact : ℕ → PassView → Type 0) (views : List PassView) (number : ℕ) (new : PassView)
@@ -101,7 +101,7 @@ module _ (views : List PassView) (number : ℕ) (old new : PassView) (there : ge
     | yes same ↦ record {
       pass = number;
       view = new;
-      is_view = set_here views number new (number_below views number old there);
+      is_view = set_here views number new (there_inside views number old there);
       all = stays_whole old.front new.front history
           (ap (λ (view : PassView). view.front)
           (some-injective old whole.view (sym there ∙ subst (λ (n : ℕ). get_elem? views n ≡ some whole.view) same whole.is_view))

@@ -1,8 +1,6 @@
 -- Loading the number of a known row's keys or one of them changes nothing, and what was read stays true while more becomes known.
 use Rattle.std.proofs.Common.{◌≡◌, ◌≢◌, ℕ, ◌+◌, ◌<◌, List, [], ◌++◌, length, inr, refl, sym, ap, ◌∙◌, subst, append_assoc, arith}
-use mathlib.Core.List.{IsPrefix}
-use base.Growing.{prefix_refl}
-use Rattle.set_model.specs.declared.entry.Entry.{Entry}
+use base.Growing.{prefix_refl, prefix_trans}
 use Rattle.step_core.specs.declared.format.TheConstants.{FIRST_KEY}
 use Rattle.step_core.specs.declared.published.Published.TheVariants.{Row}
 use Rattle.step_core.specs.declared.published.RowBlock.{RowBlock}
@@ -22,20 +20,13 @@ use Rattle.fset.specs.declared.seen.Seen.{Seen}
 pub reads_self : (view : PassView) → Reads [] view view
 reads_self view = record { only = refl; known = refl; front = prefix_refl view.front }
 
--- a front of a front is a front
-prefix_further : (front between whole : List Entry) → IsPrefix front between → IsPrefix between whole → IsPrefix front whole
-prefix_further front between whole first second = (
-  first.0 ++ second.0,
-  sym (append_assoc front first.0 second.0) ∙ ap (λ (list : List Entry). list ++ second.0) first.1 ∙ second.1,
-)
-
 -- What was read first and then is what both readings read.
 pub reads_both : (first second : List Known) (old between new : PassView) → Reads first old between → Reads second between new
     → Reads (second ++ first) old new
 reads_both first second old between new one two = record {
   only = two.only ∙ ap (λ (view : PassView). record view { front = new.front; known = new.known }) one.only;
   known = two.known ∙ ap (λ (known : List Known). second ++ known) one.known ∙ sym (append_assoc second first old.known);
-  front = prefix_further old.front between.front new.front one.front two.front;
+  front = prefix_trans old.front between.front new.front one.front two.front;
 }
 
 -- A row's words, read, are those of the row that the pass knows.

@@ -11,7 +11,7 @@ use Rattle.std.proofs.Math.Nat.{mod-eq_of_lt}
 use Rattle.atomic_table.specs.Table.{Step as TableStep}
 use Rattle.set_model.specs.declared.entry.Entry.{Entry}
 use Rattle.step_core.specs.Content.{bucket_of}
-use Rattle.step_core.specs.Fits as fits
+use Rattle.step_core.specs.Fits.{IsAtHome}
 use Rattle.step_core.specs.Format.{IsNil, row_address}
 use Rattle.step_core.specs.States.{RoundState, IsRow}
 use Rattle.step_core.specs.declared.kinds.Step.TheVariants.{LoadBucket}
@@ -27,7 +27,7 @@ use Rattle.cells.specs.Invariant.{HoldsRound, IsFilled}
 use Rattle.cells.specs.Known.{known_block, no_row, generation_at, bucket_at, KnowsBucket, KnowsBlock, IsBucketWord, IsSound}
 use Rattle.cells.specs.Moves.{Moved, Moves, load_bucket_tells}
 use Rattle.cells.specs.Paid.{wins_of}
-use Rattle.cells.specs.Steps.{LoadsBucket, IsAtHome, is_nil, is_frozen, full_bucket, view_after_load_bucket}
+use Rattle.cells.specs.Steps.{LoadsBucket, NamesOwnRow, is_nil, is_frozen, full_bucket, view_after_load_bucket}
 use Rattle.cells.proofs.LawKnown.{generation_at-known}
 use Rattle.cells.proofs.LawPaid.{paid_load_bucket}
 use Rattle.cells.proofs.LawSound.{sound_view}
@@ -103,14 +103,14 @@ module _ {facts : RoundFacts} {words : List ℕ} {state : RoundState} {history :
       ∙ (round.fits.holds.laid.blocks at (Generation generation) published).cell_part.shown bucket is.within
 
   -- a bucket that isn't nil names a row of its own
-  row_there : ¬ IsNil word → fits.IsAtHome state.blocks (row_address word) generation bucket
+  row_there : ¬ IsNil word → IsAtHome state.blocks (row_address word) generation bucket
   row_there some_row =
       let small : bucket_of generation.exponent bucket ≡ bucket = mod-eq_of_lt is.within in
       let same : state.cells at (bucket_of generation.exponent bucket) ≡ word = ap (state.cells at) small ∙ sym word_is in
-      subst (λ (w : ℕ). fits.IsAtHome state.blocks (row_address w) generation bucket) same
+      subst (λ (w : ℕ). IsAtHome state.blocks (row_address w) generation bucket) same
       (round.fits.holds.chain.names at generation bucket published (subst (λ (w : ℕ). ¬ IsNil w) (sym same) some_row))
 
-  module _ (row : RowBlock) (here : ¬ IsNil word → IsRow state.blocks (row_address word) row) (home : IsAtHome old place word row) where
+  module _ (row : RowBlock) (here : ¬ IsNil word → IsRow state.blocks (row_address word) row) (home : NamesOwnRow old place word row) where
     -- the view after the load
     abbrev new_view : PassView
     new_view = view_after_load_bucket place word history row old
@@ -149,7 +149,7 @@ module _ {facts : RoundFacts} {words : List ℕ} {state : RoundState} {history :
     })
 
   -- the row is at home whichever way the place is seen
-  row_home : (row : RowBlock) → row.exponent ≡ generation.exponent → row.bucket ≡ bucket → IsAtHome old place word row
+  row_home : (row : RowBlock) → row.exponent ≡ generation.exponent → row.bucket ≡ bucket → NamesOwnRow old place word row
   row_home row exponent number other other_bucket other_generation too some_row =
       let same = one_bucket old place at bucket other other_bucket generation other_generation sound is too in
       (exponent ∙ ap (λ (g : GenerationBlock). g.exponent) same.0, number ∙ same.1)

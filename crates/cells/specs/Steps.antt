@@ -130,8 +130,8 @@ view_after_load_bucket place word history row view = record view {
 }
 
 -- a bucket that isn't nil names a row of its own
-abbrev pub IsAtHome : PassView → ℕ → ℕ → RowBlock → Type 0
-IsAtHome view place word row = (at bucket : ℕ) (generation : GenerationBlock)
+abbrev pub NamesOwnRow : PassView → ℕ → ℕ → RowBlock → Type 0
+NamesOwnRow view place word row = (at bucket : ℕ) (generation : GenerationBlock)
     → IsBucketWord view place at bucket generation → ¬ IsNil word
     → (row.exponent ≡ generation.exponent) × (row.bucket ≡ bucket)
 
@@ -140,7 +140,7 @@ pub record LoadsBucket (place : ℕ) (old : PassView) (word : ℕ) (new : PassVi
   pub history : List Entry
   pub row : RowBlock
   pub grows : IsPrefix old.front history
-  pub home : IsAtHome old place word row
+  pub home : NamesOwnRow old place word row
   pub view : new ≡ view_after_load_bucket place word history row old
 
 -- A draw within the arena: a block of zeros in hand.

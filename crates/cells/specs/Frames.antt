@@ -1,26 +1,62 @@
--- What a step leaves of its pass's view, as one equation.
-use Rattle.std.specs.Prelude.{◌≡◌}
+-- What a step leaves of its pass's view, as one equation. Fields that later kinds of steps will change
+-- are left open with those that today's change.
+use Rattle.std.specs.Prelude.{◌≡◌, ℕ, ◌+◌}
 use Rattle.step_core.specs.declared.views.PassView.{PassView}
 
--- loads change at most the front, the known blocks and buckets, the lost turns and the open turn
+-- loads change at most the front, the known blocks and buckets, the lost turns, the open turn, and
+-- what is noted of loads and beginnings
 abbrev pub OnlyLoads : PassView → PassView → Type 0
 OnlyLoads old new = new ≡ record old {
   front = new.front;
   known = new.known;
-  full = new.full;
+  filled = new.filled;
   lost = new.lost;
   turn = new.turn;
+  marks = new.marks;
+  heads = new.heads;
+  nils = new.nils;
+  trials = new.trials;
+  fixed = new.fixed;
+  events = new.events;
+  begun = new.begun;
+  won_since = new.won_since;
+  cursor = new.cursor;
+  made = new.made;
 }
 
--- loads of sealed words change at most the front and what is known
+-- loads of sealed words change at most the front, what is known, and what is noted of loads
 abbrev pub OnlyReads : PassView → PassView → Type 0
-OnlyReads old new = new ≡ record old { front = new.front; known = new.known }
+OnlyReads old new = new ≡ record old {
+  front = new.front;
+  known = new.known;
+  marks = new.marks;
+  heads = new.heads;
+  nils = new.nils;
+  trials = new.trials;
+  fixed = new.fixed;
+  made = new.made;
+}
 
--- draws and writes change at most the blocks in hand, the words drawn, and whether a draw passed
--- the end
+-- draws and writes change at most the blocks in hand, the words drawn, whether a draw passed the
+-- end, and what is noted of beginnings
 abbrev pub OnlyDraws : PassView → PassView → Type 0
-OnlyDraws old new = new ≡ record old { hands = new.hands; drawn = new.drawn; spent = new.spent }
+OnlyDraws old new = new ≡ record old {
+  hands = new.hands;
+  drawn = new.drawn;
+  spent = new.spent;
+  events = new.events;
+  begun = new.begun;
+  won_since = new.won_since;
+  cursor = new.cursor;
+  made = new.made;
+}
 
 -- learning from a note changes at most the front
 abbrev pub OnlyLearns : PassView → PassView → Type 0
-OnlyLearns old new = new ≡ record old { front = new.front }
+OnlyLearns old new = new ≡ record old { front = new.front; made = new.made }
+
+-- the view after so many loads of sealed words that told nothing new
+abbrev pub after_reads : ℕ → PassView → PassView
+after_reads count view = record view {
+  made = record view.made { sealed_loads = view.made.sealed_loads + count };
+}

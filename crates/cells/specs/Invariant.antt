@@ -1,21 +1,26 @@
 -- The table invariant: what holds of a round between any two steps, whatever the schedule.
-use Rattle.std.specs.Prelude.{ℕ, ◌^◌, List, [], ◌∷◌, length, All}
+use Rattle.std.specs.Prelude.{ℕ, List, All}
 use Rattle.set_model.specs.declared.entry.Entry.{Entry}
-use Rattle.step_core.specs.Content.{exponent_of}
 use Rattle.step_core.specs.Fits.{Fits}
-use Rattle.step_core.specs.Format.{IsNil, next_of}
-use Rattle.step_core.specs.Plain.{keys_before}
-use Rattle.step_core.specs.Rising.{with_key}
+use Rattle.step_core.specs.Format.{IsNil}
+use Rattle.step_core.specs.Members.{HoldsMembers}
 use Rattle.step_core.specs.States.{RoundState, Each}
-use Rattle.step_core.specs.declared.views.FullBucket.{FullBucket}
+use Rattle.step_core.specs.declared.views.FilledBucket.{FilledBucket}
+use Rattle.step_core.specs.declared.views.PassView.{PassView}
 use Rattle.step_core.specs.declared.views.RoundFacts.{RoundFacts}
-use Rattle.cells.specs.Known.{AreSmall}
+use Rattle.cells.specs.Lone.{KnowsAlone}
 use Rattle.cells.specs.Past.{HoldsHistory}
 use Rattle.cells.specs.Paid.{ArePaid}
+use Rattle.cells.specs.SoFar.{HasOneGeneration}
+use Rattle.cells.specs.Sound.{AreSmall}
 
 -- the bucket isn't nil
-abbrev pub IsFilled : (ℕ → ℕ → ℕ) → FullBucket → Type 0
+abbrev pub IsFilled : (ℕ → ℕ → ℕ) → FilledBucket → Type 0
 IsFilled cells bucket = ¬ IsNil (cells bucket.at bucket.bucket)
+
+-- the buckets that a pass knows to be filled are
+abbrev pub KnowsFilled : (ℕ → ℕ → ℕ) → ℕ → PassView → Type 0
+KnowsFilled cells pass view = All (IsFilled cells) view.filled
 
 -- the words, what they stand for, and the history
 pub record HoldsRound (facts : RoundFacts) (words : List ℕ) (state : RoundState)
@@ -23,21 +28,11 @@ pub record HoldsRound (facts : RoundFacts) (words : List ℕ) (state : RoundStat
   pub small : AreSmall facts
   -- words, published blocks and views fit
   pub fits : Fits facts words state
-  pub past : HoldsHistory facts.keys state.blocks state.cells state.views history
+  pub past : HoldsHistory facts state.blocks state.cells state.views history
+  -- the members are the set after the history
+  pub members : HoldsMembers facts.keys state.head state.blocks state.cells history
   pub paid : ArePaid state.head state.cells state.views
-  -- a bucket that a pass knows not to be nil isn't
-  pub full : Each (λ pass view. All (IsFilled state.cells) view.full) state.views
-
--- the keys of a list, each once, rising
-unfoldable pub rising_keys : List ℕ → List ℕ
-rising_keys [] = []
-rising_keys (key ∷ keys) = with_key key (rising_keys keys)
-
--- the keys that an opening's rows have
-abbrev pub opening_keys : List ℕ → List ℕ
-opening_keys words = rising_keys (keys_before words (2 ^ exponent_of words))
-
--- what never changes in a round that begins with these words
-abbrev pub facts_from : ℕ → List ℕ → RoundFacts
-facts_from seats words =
-    record { seats = seats; cap = length words; opened = next_of words; keys = opening_keys words }
+  pub filled : Each (KnowsFilled state.cells) state.views
+  -- a pass that is the only one knows the whole table
+  pub alone : Each (KnowsAlone facts state.head state.blocks state.cells) state.views
+  pub so_far : HasOneGeneration state.head state.blocks state.views

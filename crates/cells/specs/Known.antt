@@ -1,19 +1,13 @@
--- What a pass knows of published blocks and has in its hands.
-use Rattle.std.specs.Prelude.{◌≡◌, ℕ, ◌+◌, ◌-◌, ◌<◌, ◌≤◌, ◌^◌, ◌&&◌, Bool, false, nat_eq, nat_lt, nat_le, if◌then◌else◌, List, [], ◌∷◌, length, All, Contains}
-use Rattle.std.specs.List.Sorted.{IsStrictlyIncreasing}
-use Rattle.set_model.specs.History.{IsLegal}
-use Rattle.set_model.specs.Keys.{is_in}
-use Rattle.arena.specs.Hands.{words_at}
-use Rattle.step_core.specs.Content.{InClass}
-use Rattle.step_core.specs.Format.{base_of, block_len, sealed_words}
-use Rattle.step_core.specs.declared.format.TheConstants.{FIRST_BUCKET, MAX_EXPONENT, MAX_SEATS, MAX_WORDS}
+-- What a pass knows of published blocks, and lookups in it.
+use Rattle.std.specs.Prelude.{◌≡◌, ℕ, ◌+◌, ◌-◌, ◌<◌, ◌^◌, ◌&&◌, Bool, false, nat_eq, nat_lt, nat_le, if◌then◌else◌, List, [], ◌∷◌, length, Contains, Option, Some, None}
+use Rattle.step_core.specs.Format.{sealed_words}
+use Rattle.step_core.specs.declared.format.TheConstants.{FIRST_BUCKET}
 use Rattle.step_core.specs.declared.published.Published.{Published}
 use Rattle.step_core.specs.declared.published.Published.TheVariants.{Generation, Row, Op}
 use Rattle.step_core.specs.declared.published.GenerationBlock.{GenerationBlock}
 use Rattle.step_core.specs.declared.published.RowBlock.{RowBlock}
 use Rattle.step_core.specs.declared.views.Known.{Known}
 use Rattle.step_core.specs.declared.views.PassView.{PassView}
-use Rattle.step_core.specs.declared.views.RoundFacts.{RoundFacts}
 
 -- a block and where it begins
 abbrev pub known_block : ℕ → Published → Known
@@ -46,6 +40,12 @@ abbrev pub link_of : Published → ℕ
 link_of (Generation generation) = generation.predecessor
 link_of (Row row) = row.op
 link_of (Op op) = 0
+
+-- the block that is known at the address, if one is
+abbrev pub block_at : List Known → ℕ → Option Published
+block_at [] at = None
+block_at (known ∷ others) at =
+    if nat_eq known.at at then Some known.block else block_at others at
 
 -- the row that is known at the address
 abbrev pub row_at : List Known → ℕ → RowBlock
@@ -94,55 +94,3 @@ pub record IsBucketWord (view : PassView) (place at bucket : ℕ) (generation : 
 abbrev pub KnowsBucket : PassView → ℕ → Type 0
 KnowsBucket view place =
     (at bucket : ℕ) × (generation : GenerationBlock) × IsBucketWord view place at bucket generation
-
--- so many words from the address on lie in the arena
-pub record IsInArena (facts : RoundFacts) (at count : ℕ) : Type 0 where
-  pub behind_base : base_of facts.seats ≤ at
-  pub within : at + count ≤ facts.cap
-
--- the place is a word of the block in hand at the address
-pub record IsInHand (view : PassView) (at place : ℕ) : Type 0 where
-  pub begun : at ≤ place
-  pub within : place < at + length (words_at view.hands at)
-
--- the place is a word of the known block at the address
-pub record IsInBlock (view : PassView) (at place : ℕ) : Type 0 where
-  pub block : Published
-  pub known : KnowsBlock view at block
-  pub begun : at ≤ place
-  pub within : place < at + block_len block
-
--- a row has rising keys of its bucket's class
-pub record HoldsClass (row : RowBlock) : Type 0 where
-  pub rising : IsStrictlyIncreasing row.keys
-  pub class : All (InClass row.exponent row.bucket) row.keys
-
--- a round has 1 to 64 passes, and at most 2^28 words, the fixed ones among them
-pub record AreSmall (facts : RoundFacts) : Type 0 where
-  pub some_pass : 1 ≤ facts.seats
-  pub few_passes : facts.seats ≤ MAX_SEATS
-  pub few_words : facts.cap ≤ MAX_WORDS
-  pub fixed_words : base_of facts.seats ≤ facts.cap
-
--- What holds of any view, taken alone.
-pub record IsSound (view : PassView) : Type 0 where
-  pub facts : AreSmall view.facts
-  pub seat : view.number < view.facts.seats
-  -- its front is a legal history
-  pub legal : IsLegal (is_in view.facts.keys) view.front
-  -- known blocks lie in the arena, one at a place, and those that share a word are one
-  pub blocks : (at : ℕ) (block : Published) → KnowsBlock view at block
-      → IsInArena view.facts at (block_len block)
-  pub one : (at : ℕ) (block other : Published) → KnowsBlock view at block → KnowsBlock view at other
-      → block ≡ other
-  pub apart : (at other place : ℕ) → IsInBlock view at place → IsInBlock view other place
-      → at ≡ other
-  -- known rows rise, and known generations are no larger than they may be
-  pub rows : (at : ℕ) (row : RowBlock) → KnowsRow view at row → HoldsClass row
-  pub generations : (at : ℕ) (generation : GenerationBlock) → KnowsGeneration view at generation
-      → generation.exponent ≤ MAX_EXPONENT
-  -- blocks in hand lie in the arena, share no word, and none is known
-  pub hands : (at place : ℕ) → IsInHand view at place → IsInArena view.facts place 1
-  pub hands_apart : (at other place : ℕ) → IsInHand view at place → IsInHand view other place
-      → at ≡ other
-  pub hands_unknown : (at other place : ℕ) → IsInHand view at place → IsInBlock view other place → ⊥

@@ -8,7 +8,8 @@ pub mod Moves
 pub mod Tokens
 pub mod Ends
 pub mod Modeled
-pub mod Fronts
-pub mod Cutting
 pub mod Frames
-pub mod Notes
+pub mod Begins
+pub mod Lone
+pub mod SoFar
+pub mod Sound

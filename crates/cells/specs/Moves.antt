@@ -9,17 +9,18 @@ use Rattle.atomic_table.specs.Table.{Me}
 use Rattle.atomic_table.specs.Table.{Step as TableStep}
 use Rattle.step_core.specs.States.{RoundState}
 use Rattle.step_core.specs.Steps.{place_of, after_step}
-use Rattle.step_core.specs.declared.format.TheConstants.{MAX_DRAW}
+use Rattle.step_core.specs.Limits.{max_draw}
 use Rattle.step_core.specs.declared.kinds.Step.{Step}
 use Rattle.step_core.specs.declared.views.PassView.{PassView}
 use Rattle.step_core.specs.declared.views.RoundFacts.{RoundFacts}
 use Rattle.arena.specs.Hands.{words_at}
 use Rattle.cells.specs.declared.rule.SeatView.{SeatView}
 use Rattle.cells.specs.Invariant.{HoldsRound}
-use Rattle.cells.specs.Known.{IsSound}
+use Rattle.cells.specs.Sound.{IsSound}
+use Rattle.cells.specs.Lone.{SameLedger}
 use Rattle.cells.specs.Past.{longer}
 use Rattle.cells.specs.Seats.{pass_of, pass_seat}
-use Rattle.cells.specs.Steps.{LoadsHead, LoadsSealed, LoadsBucket, view_after_draw, view_after_overdraw, view_after_write}
+use Rattle.cells.specs.Steps.{LoadsHead, LoadsSealed, LoadsBucket, FindsNext, view_after_draw, view_after_overdraw, view_after_write}
 
 -- the round after a step of one pass: the invariant holds, and only that pass's view is another
 pub record Moved (facts : RoundFacts) (words : List ℕ) (before : RoundState) (past : List Entry)
@@ -66,7 +67,8 @@ load_bucket_tells old step word new = LoadsBucket step.word old word new
 -- NEXT never wraps, and the draw gives a block exactly where that doesn't pass the end
 pub record DrawTells (old : PassView) (step : TableStep ℕ) (next : ℕ) (new : PassView)
     : Type 0 where
-  pub small : next ≤ (old.facts.seats + 1) * MAX_DRAW
+  pub found : FindsNext old next
+  pub small : next ≤ (old.facts.seats + 1) * max_draw
   pub fresh : words_at old.hands next ≡ []
   pub within : next + step.first ≤ old.facts.cap → new ≡ view_after_draw next step.first old
   pub past : old.facts.cap < next + step.first → new ≡ view_after_overdraw next step.first old
@@ -81,7 +83,11 @@ view_after_hear front view = record view { heard = front }
 
 -- what a pass has once it learned which of its own front and that of a note is longer
 abbrev pub view_after_learn : PassView → PassView
-view_after_learn view = record view { front = longer view.front view.heard; heard = [] }
+view_after_learn view = record view {
+  front = longer view.front view.heard;
+  heard = [];
+  made = record view.made { learned = view.made.learned + 1 };
+}
 
 -- both are fronts of the longer one
 pub record LearnTells (old : PassView) (step : TableStep ℕ) (word : ℕ) (new : PassView)
@@ -89,3 +95,4 @@ pub record LearnTells (old : PassView) (step : TableStep ℕ) (word : ℕ) (new 
   pub own : IsPrefix old.front (longer old.front old.heard)
   pub other : IsPrefix old.heard (longer old.front old.heard)
   pub view : new ≡ view_after_learn old
+  pub alone : old.facts.seats ≡ 1 → SameLedger old new

@@ -1,18 +1,20 @@
 -- The history of a round, and what each pass has of it.
-use Rattle.std.specs.Prelude.{◌≡◌, ℕ, ◌==◌, ◌||◌, Bool, nat_eq, nat_lt, if◌then◌else◌, List, [], ◌∷◌, ◌++◌, length, Option, Some, None}
+use Rattle.std.specs.Prelude.{◌≡◌, ℕ, ◌<◌, ◌==◌, ◌||◌, Bool, nat_eq, nat_lt, if◌then◌else◌, List, [], ◌∷◌, ◌++◌, length, map, All, Option, Some, None}
 use Rattle.std.specs.List.{filter}
+use Rattle.std.specs.List.Sorted.{IsStrictlyIncreasing}
 use mathlib.Core.List.{IsPrefix}
 use mathlib.Core.Option.{some}
 use lib.ListN.{get_elem?}
 use Rattle.set_model.specs.History.{IsLegal}
 use Rattle.set_model.specs.Keys.{is_in}
-use Rattle.set_model.specs.declared.call.Call.TheVariants.{Insert, Remove}
 use Rattle.set_model.specs.declared.entry.Entry.{Entry}
+use Rattle.step_core.specs.Members.{call_of}
 use Rattle.step_core.specs.States.{Each}
 use Rattle.step_core.specs.declared.published.Published.{Published}
 use Rattle.step_core.specs.declared.published.Published.TheVariants.{Generation, Row, Op}
 use Rattle.step_core.specs.declared.published.OpBlock.{OpBlock}
 use Rattle.step_core.specs.declared.views.PassView.{PassView}
+use Rattle.step_core.specs.declared.views.RoundFacts.{RoundFacts}
 
 -- the entries of one pass, in order
 abbrev pub entries_by : ℕ → List Entry → List Entry
@@ -23,7 +25,7 @@ abbrev pub entry_of : OpBlock → Bool → Entry
 entry_of op answer = record {
   who = op.who;
   serial = op.serial;
-  call = if op.insert then Insert else Remove;
+  call = call_of op;
   key = op.key;
   answer = answer;
 }
@@ -68,10 +70,26 @@ pub record IsSeenWhole (history : List Entry) (views : List PassView) : Type 0 w
   pub is_view : get_elem? views pass ≡ some view
   pub all : view.front ≡ history
 
--- the one history of the round, from these keys on
-pub record HoldsHistory (keys : List ℕ) (blocks : ℕ → Option Published) (cells : ℕ → ℕ → ℕ)
+-- an entry is that of one of so many passes
+abbrev pub IsOfPasses : ℕ → Entry → Type 0
+IsOfPasses seats entry = entry.who < seats
+
+-- a pass's entries stand in the order of its calls
+abbrev pub IsInOrder : List Entry → ℕ → Type 0
+IsInOrder history pass = IsStrictlyIncreasing (map (λ entry. entry.serial) (entries_by pass history))
+
+-- their serials are used
+abbrev pub UsesSerials : List Entry → ℕ → PassView → Type 0
+UsesSerials history pass view =
+    All (λ entry. entry.serial < view.used) (entries_by pass history)
+
+-- the one history of the round
+pub record HoldsHistory (facts : RoundFacts) (blocks : ℕ → Option Published) (cells : ℕ → ℕ → ℕ)
     (views : List PassView) (history : List Entry) : Type 0 where
-  pub legal : IsLegal (is_in keys) history
+  pub legal : IsLegal (is_in facts.keys) history
   pub begun : Each (BeginsHistory history) views
   pub whole : IsSeenWhole history views
   pub own : Each (OwnsEntries blocks cells history) views
+  pub who : All (IsOfPasses facts.seats) history
+  pub ordered : (pass : ℕ) → IsInOrder history pass
+  pub used : Each (UsesSerials history) views

@@ -11,7 +11,8 @@ use Rattle.step_core.specs.declared.views.PassView.{PassView}
 use Rattle.step_core.specs.declared.views.RoundFacts.{RoundFacts}
 use Rattle.cells.specs.declared.rule.SeatView.{SeatView}
 use Rattle.cells.specs.declared.rule.Setup.{Setup}
-use Rattle.cells.specs.Invariant.{HoldsRound, facts_from}
+use Rattle.cells.specs.Invariant.{HoldsRound}
+use Rattle.cells.specs.Begins.{facts_from}
 
 -- the seat of one pass
 abbrev pub pass_seat : PassView → SeatView

@@ -1,9 +1,12 @@
 -- What each kind of step tells its pass: the view after it, as a function of the view before.
-use Rattle.std.specs.Prelude.{◌≡◌, ◌≢◌, ℕ, ◌+◌, ◌%◌, ◌<◌, ◌≤◌, ◌==◌, ◌&&◌, ◌⊎◌, Bool, false, nat_eq, if◌then◌else◌, List, [], ◌∷◌, ◌++◌, length, All, take, slice_index, Option, Some, None}
+use Rattle.std.specs.Prelude.{◌≡◌, ◌≢◌, ℕ, ◌+◌, ◌%◌, ◌<◌, ◌≤◌, ◌==◌, ◌&&◌, ◌⊎◌, Bool, true, false, nat_eq, if◌then◌else◌, List, [], ◌∷◌, ◌++◌, length, All, take, slice_index, Option, Some, None}
 use mathlib.Core.List.{IsPrefix}
 use Rattle.set_model.specs.declared.entry.Entry.{Entry}
 use Rattle.arena.specs.Hands.{words_at, drawn_block, written}
-use Rattle.step_core.specs.Format.{IsNil, row_address, sealed_words}
+use Rattle.set_model.specs.History.{members_after}
+use Rattle.set_model.specs.Keys.{is_in}
+use Rattle.step_core.specs.Content.{InClass}
+use Rattle.step_core.specs.Format.{IsNil, IsMutable, row_address, sealed_words}
 use Rattle.step_core.specs.declared.published.Published.{Published}
 use Rattle.step_core.specs.declared.published.Published.TheVariants.{Generation, Row, Op}
 use Rattle.step_core.specs.declared.published.GenerationBlock.{GenerationBlock}
@@ -11,19 +14,31 @@ use Rattle.step_core.specs.declared.published.RowBlock.{RowBlock}
 use Rattle.step_core.specs.declared.published.OpBlock.{OpBlock}
 use Rattle.step_core.specs.declared.views.Known.{Known}
 use Rattle.step_core.specs.declared.views.BucketLoad.{BucketLoad}
-use Rattle.step_core.specs.declared.views.FullBucket.{FullBucket}
+use Rattle.step_core.specs.declared.views.FilledBucket.{FilledBucket}
 use Rattle.step_core.specs.declared.views.OpenTurn.{OpenTurn}
 use Rattle.step_core.specs.declared.views.PassView.{PassView}
 use Rattle.cells.specs.Known.{known_block, link_of, generation_at, bucket_at, IsSealedWord, IsBucketWord}
+use Rattle.cells.specs.Lone.{head_at, head_generation, is_among, is_untouched, SameLedger}
 use Rattle.cells.specs.Past.{longer}
+use Rattle.cells.specs.SoFar.{NamesMutableRow}
 
--- Loading the head: the front is the history, the head generation is known, and a turn opens.
+-- Loading the head: the front is the history, the head generation is known, the load is noted, and
+-- a turn opens.
 abbrev pub view_after_load_head : ℕ → List Entry → ℕ → GenerationBlock → PassView → PassView
 view_after_load_head head history seen generation view = record view {
   front = history;
   known = known_block head (Generation generation) ∷ view.known;
+  heads = record { at = head; front = history } ∷ view.heads;
   turn = Some (record { head = head; seen = seen; loads = [] });
+  made = record view.made { head_loads = view.made.head_loads + 1 };
 }
+
+-- what the head is to a pass that is the only one
+pub record LoadsKnownHead (old : PassView) (word : ℕ) (generation : GenerationBlock)
+    (new : PassView) : Type 0 where
+  pub head : word ≡ head_at old
+  pub generation_is : generation ≡ head_generation old
+  pub same : SameLedger old new
 
 -- what loading the head tells
 pub record LoadsHead (old : PassView) (word : ℕ) (new : PassView) : Type 0 where
@@ -32,12 +47,14 @@ pub record LoadsHead (old : PassView) (word : ℕ) (new : PassView) : Type 0 whe
   pub generation : GenerationBlock
   pub grows : IsPrefix old.front history
   pub view : new ≡ view_after_load_head word history seen generation old
+  pub alone : old.facts.seats ≡ 1 → LoadsKnownHead old word generation new
 
 -- Loading a sealed word: what it names may be known, and the front may reach further.
-abbrev pub view_after_load_sealed : ℕ → ℕ → List Known → List Entry → PassView → PassView
-view_after_load_sealed place word learned front view = record view {
+abbrev pub view_after_load_sealed : List Known → List Entry → PassView → PassView
+view_after_load_sealed learned front view = record view {
   front = front;
   known = learned ++ view.known;
+  made = record view.made { sealed_loads = view.made.sealed_loads + 1 };
 }
 
 -- the word is that of every known block that has the place
@@ -84,7 +101,8 @@ pub record LoadsSealed (place : ℕ) (old : PassView) (word : ℕ) (new : PassVi
   pub nothing : LearnsNothing old place learned
   pub stays : StaysAtFront old place front
   pub grows : IsPrefix old.front front
-  pub view : new ≡ view_after_load_sealed place word learned front old
+  pub view : new ≡ view_after_load_sealed learned front old
+  pub alone : old.facts.seats ≡ 1 → SameLedger old new
 
 -- Loading a bucket. A frozen bucket's row stays, so the front needs not reach further.
 abbrev pub is_nil : ℕ → Bool
@@ -100,8 +118,8 @@ bucket_load view place word =
     record { at = generation_at view.known place; bucket = bucket_at view.known place; word = word }
 
 -- the bucket, as one that isn't nil
-abbrev pub full_bucket : PassView → ℕ → FullBucket
-full_bucket view place =
+abbrev pub filled_bucket : PassView → ℕ → FilledBucket
+filled_bucket view place =
     record { at = generation_at view.known place; bucket = bucket_at view.known place }
 
 -- a frozen bucket of the head that the open turn loaded loses the turn
@@ -123,10 +141,11 @@ abbrev pub view_after_load_bucket : ℕ → ℕ → List Entry → RowBlock → 
 view_after_load_bucket place word history row view = record view {
   front = if is_frozen word then view.front else history;
   known = if is_nil word then view.known else known_block (row_address word) (Row row) ∷ view.known;
-  full = if is_nil word then view.full else full_bucket view place ∷ view.full;
+  filled = if is_nil word then view.filled else filled_bucket view place ∷ view.filled;
   lost = if loses_turn view place word view.turn then view.lost + 1 else view.lost;
   turn = turn_after_load (bucket_load view place word) (loses_turn view place word view.turn)
       view.turn;
+  made = record view.made { bucket_loads = view.made.bucket_loads + 1 };
 }
 
 -- a bucket that isn't nil names a row of its own
@@ -135,26 +154,65 @@ NamesOwnRow view place word row = (at bucket : ℕ) (generation : GenerationBloc
     → IsBucketWord view place at bucket generation → ¬ IsNil word
     → (row.exponent ≡ generation.exponent) × (row.bucket ≡ bucket)
 
+-- a bucket that the pass knows to be filled, or that has nothing to be filled from, isn't nil
+abbrev pub FindsFilled : PassView → ℕ → ℕ → Type 0
+FindsFilled view place word = (at bucket : ℕ) (generation : GenerationBlock)
+    → IsBucketWord view place at bucket generation
+    → (is_among view.filled at bucket ≡ true) ⊎ (generation.predecessor ≡ 0) → ¬ IsNil word
+
+-- a mutable row without an operation has the keys that the set after the history has in its bucket
+abbrev pub AgreesWithHistory : PassView → ℕ → List Entry → RowBlock → Type 0
+AgreesWithHistory view word history row = ¬ IsNil word → IsMutable word → row.op ≡ 0
+    → (key : ℕ) → InClass row.exponent row.bucket key
+    → is_in row.keys key ≡ members_after (is_in view.facts.keys) history key
+
+-- what a bucket of the head is to a pass that is the only one: nil where the ledger says so
+pub record LoadsKnownBucket (place : ℕ) (old : PassView) (word : ℕ) (new : PassView)
+    : Type 0 where
+  pub same : SameLedger old new
+  pub mutable : (bucket : ℕ) → IsBucketWord old place (head_at old) bucket (head_generation old)
+      → IsMutable word
+  pub nil : (bucket : ℕ) → IsBucketWord old place (head_at old) bucket (head_generation old)
+      → is_nil word ≡ is_untouched old bucket
+
 -- what loading a bucket tells
 pub record LoadsBucket (place : ℕ) (old : PassView) (word : ℕ) (new : PassView) : Type 0 where
   pub history : List Entry
   pub row : RowBlock
   pub grows : IsPrefix old.front history
   pub home : NamesOwnRow old place word row
+  pub filled : FindsFilled old place word
+  pub agrees : AgreesWithHistory old word history row
   pub view : new ≡ view_after_load_bucket place word history row old
+  pub alone : old.facts.seats ≡ 1 → LoadsKnownBucket place old word new
+  pub so_far : NamesMutableRow word
 
 -- A draw within the arena: a block of zeros in hand.
 abbrev pub view_after_draw : ℕ → ℕ → PassView → PassView
-view_after_draw at len view =
-    record view { hands = drawn_block at len ∷ view.hands; drawn = view.drawn + len }
+view_after_draw at len view = record view {
+  hands = drawn_block at len ∷ view.hands;
+  drawn = view.drawn + len;
+  made = record view.made { draws = view.made.draws + 1 };
+}
 
 -- A draw past the end: the pass is spent.
 abbrev pub view_after_overdraw : ℕ → ℕ → PassView → PassView
-view_after_overdraw at len view = record view { drawn = view.drawn + len; spent = Some at }
+view_after_overdraw at len view = record view {
+  drawn = view.drawn + len;
+  spent = Some at;
+  made = record view.made { draws = view.made.draws + 1 };
+}
+
+-- the place that a draw finds: behind the opening and all that the pass has drawn, and where it is
+-- the only pass, right behind it
+pub record FindsNext (old : PassView) (at : ℕ) : Type 0 where
+  pub behind : old.facts.opened + old.drawn ≤ at
+  pub alone : old.facts.seats ≡ 1 → at ≡ old.facts.opened + old.drawn
 
 -- what a draw tells that gave a block
 pub record Draws (old : PassView) (at len : ℕ) (new : PassView) : Type 0 where
   pub unspent : old.spent ≡ None
+  pub found : FindsNext old at
   pub within : at + len ≤ old.facts.cap
   -- no block in hand begins there
   pub fresh : words_at old.hands at ≡ []
@@ -162,31 +220,46 @@ pub record Draws (old : PassView) (at len : ℕ) (new : PassView) : Type 0 where
 
 -- what a draw tells that passed the end
 pub record Overdraws (old : PassView) (at len : ℕ) (new : PassView) : Type 0 where
+  pub found : FindsNext old at
   pub past : old.facts.cap < at + len
   pub view : new ≡ view_after_overdraw at len old
 
 -- what a refused draw leaves: a spent pass draws no more, and else this draw passed the end
-pub record IsFull (old : PassView) (len : ℕ) (new : PassView) : Type 0 where
+pub record RefusesDraw (old : PassView) (len : ℕ) (new : PassView) : Type 0 where
   pub spent : old.spent ≢ None → new ≡ old
   pub overdrew : old.spent ≡ None → (at : ℕ) × Overdraws old at len new
 
 -- A write into a block in hand.
 abbrev pub view_after_write : ℕ → ℕ → PassView → PassView
-view_after_write place value view = record view { hands = written place value view.hands }
+view_after_write place value view = record view {
+  hands = written place value view.hands;
+  made = record view.made { writes = view.made.writes + 1 };
+}
 
 -- These words were written into the block in hand at the address, from the offset on, and nothing
 -- else changed. So told, writes add up: what the first wrote and then the second is what both
 -- wrote.
 pub record Writes (at offset : ℕ) (values : List ℕ) (old new : PassView) : Type 0 where
-  pub only : new ≡ record old { hands = new.hands }
+  pub only : new ≡ record old {
+    hands = new.hands;
+    made = record old.made { writes = old.made.writes + length values };
+  }
   pub long : length (words_at new.hands at) ≡ length (words_at old.hands at)
   pub words : take (offset + length values) (words_at new.hands at)
       ≡ take offset (words_at old.hands at) ++ values
   pub others : (other : ℕ) → other ≢ at → words_at new.hands other ≡ words_at old.hands other
+
+-- Making a note.
+abbrev pub view_after_note : PassView → PassView
+view_after_note view = record view { made = record view.made { notes = view.made.notes + 1 } }
 
 -- What a note tells the pass that took it: its front is the longer of its own and the note's, which
 -- begins with both, and nothing else changed.
 pub record Learns (old : PassView) (front : List Entry) (new : PassView) : Type 0 where
   pub own : IsPrefix old.front new.front
   pub other : IsPrefix front new.front
-  pub view : new ≡ record old { front = longer old.front front }
+  pub view : new ≡ record old {
+    front = longer old.front front;
+    made = record old.made { learned = old.made.learned + 1 };
+  }
+  pub alone : old.facts.seats ≡ 1 → SameLedger old new

@@ -1,8 +1,9 @@
 -- A round, a pass and a block as contracts see them.
-use Rattle.std.specs.Prelude.{◌≡◌, ℕ, List, map}
+use Rattle.std.specs.Prelude.{◌≡◌, ℕ, ◌<◌, List, map, All}
 use Rattle.std.specs.List.{range_with_len}
 use Rattle.atomic_table.specs.Seated.{TableId}
 use Rattle.set_model.specs.declared.entry.Entry.{Entry}
+use Rattle.step_core.specs.Plans.{IsPlan}
 use Rattle.step_core.specs.States.{fresh_view}
 use Rattle.step_core.specs.declared.layout.Layout.{Layout}
 use Rattle.step_core.specs.declared.layout.Plan.{Plan}
@@ -32,10 +33,21 @@ pub record NoteValue : Type 0 where
   pub table : TableId
   pub front : List Entry
 
+-- a round's layout and plan are those of its facts
+pub record IsPlanned (round : RoundValue) : Type 0 where
+  pub cap : round.facts.cap ≡ round.layout.cap
+  pub seats : round.facts.seats ≡ round.layout.seats
+  pub plan : IsPlan round.plan
+  pub planned : round.plan.seats ≡ round.layout.seats
+
 -- the pass was made by the round
 pub record IsPassOf (round : RoundValue) (pass : PassValue) : Type 0 where
   pub table : pass.table ≡ round.table
   pub facts : pass.view.facts ≡ round.facts
+
+-- it has begun the calls of all its entries
+abbrev pub HasBegunCalls : PassValue → Type 0
+HasBegunCalls pass = All (λ entry. entry.serial < pass.calls) pass.view.mine
 
 -- it is the same pass of the same round, and has begun no call more
 pub record IsSamePass (old new : PassValue) : Type 0 where

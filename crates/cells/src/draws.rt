@@ -1,8 +1,10 @@
 // The step that draws a block.
-ghost use Rattle.std.specs.Prelude.{◌≡◌, ◌≤◌, IfOk, IfErr, replicate};
-ghost use Rattle.cells.specs.Steps.{Draws, IsFull};
+ghost use Rattle.std.specs.Prelude.{◌≡◌, ◌≤◌, IfOk, IfErr, is_err};
+ghost use Rattle.cells.specs.Lone.{EndsAs, ledger_of};
+ghost use Rattle.cells.specs.Steps.{Draws, RefusesDraw};
 ghost use Rattle.cells.specs.Tokens.{IsPassOf, IsSamePass};
-ghost use Rattle.step_core.specs.declared.format.TheConstants.{MAX_DRAW};
+ghost use Rattle.step_core.specs.Ledger.{drawing};
+ghost use Rattle.step_core.specs.Limits.{max_draw};
 
 use crate::{Block, Full, Pass, Round, plays};
 use step_core::NEXT;
@@ -10,14 +12,17 @@ use step_core::NEXT;
 impl Round {
     /// Draws a block of so many words, all 0, into the pass's hands. It is Full exactly where the
     /// pass was spent, and then makes no step, or where the words drawn pass the end of the arena:
-    /// from then on the pass is spent.
+    /// from then on the pass is spent. Of the only pass of a round its ledger says which of these
+    /// it is, and where the block lies.
     pub fn draw(&self, pass: &mut Pass, len: u64) -> Result<Block, Full>
         requires pass { IsPassOf self.now pass.old }
-        requires fits { (1 ≤ len) × (len ≤ MAX_DRAW) }
+        requires fits { (1 ≤ len) × (len ≤ max_draw) }
         ensures pass { IsSamePass pass.old pass.new }
         ensures answer { IfOk result (λ block. (block.len ≡ len)
             × Draws pass.old.view block.at len pass.new.view) }
-        ensures full { IfErr result (λ _. IsFull pass.old.view len pass.new.view) }
+        ensures full { IfErr result (λ _. RefusesDraw pass.old.view len pass.new.view) }
+        ensures alone { pass.old.view.facts.seats ≡ 1
+            → EndsAs (drawing len (ledger_of pass.old.view)) (is_err result) pass.new.view }
     {
         let end = self.layout.cap;
         if pass.spent.is_some() {

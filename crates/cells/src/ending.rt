@@ -3,6 +3,7 @@ ghost use Rattle.std.specs.Prelude.{◌≡◌, ◌≢◌, ◌<◌, ◌≤◌, []
 ghost use Rattle.std.specs.Mem.Slots.{IsFull, slots_items, slots_len};
 ghost use Rattle.cells.specs.Ends.{AreAllPasses, EndsRound};
 ghost use Rattle.cells.specs.Seats.{gathered_seat};
+ghost use Rattle.cells.specs.Tokens.{HasBegunCalls};
 
 use crate::plays::{CutFront, GatherPass};
 use crate::rule::{RoundSeat, RoundTable};
@@ -47,6 +48,7 @@ fn gathered(table: &RoundTable, mut passes: Vec<Pass>) -> RoundSeat
     requires ours { All (λ pass. pass.table ≡ table.now.shared.table_id) passes.items }
     ensures table { result.table_id ≡ table.now.shared.table_id }
     ensures seat { result.me ≡ (gathered_seat (map (λ pass. pass.view) passes.items), []) }
+    ensures serials { All HasBegunCalls passes.items }
 {
     let Some(last) = passes.pop() else {
         unreachable!()

@@ -14,7 +14,7 @@ impl Model for Front {
 
     ghost Value = { List Entry };
 
-    ghost use Rattle.cells.specs.Fronts.{front_value};
+    ghost use Rattle.cells.specs.Modeled.{front_value};
 
     ghost view = { front_value };
 }

@@ -1,6 +1,6 @@
 // What passes hand each other.
 ghost use Rattle.std.specs.Prelude.{◌≡◌};
-ghost use Rattle.cells.specs.Steps.{Learns};
+ghost use Rattle.cells.specs.Steps.{Learns, view_after_note};
 ghost use Rattle.cells.specs.Tokens.{IsPassOf, IsSamePass};
 
 use crate::rule::RoundSeat;
@@ -19,7 +19,7 @@ impl Model for Note {
 
     ghost Value = { NoteValue };
 
-    ghost use Rattle.cells.specs.Notes.{note_value, IsNote};
+    ghost use Rattle.cells.specs.Modeled.{note_value, IsNote};
 
     ghost view = { note_value };
 
@@ -27,10 +27,11 @@ impl Model for Note {
 }
 
 impl Round {
-    /// A note with the pass's front. The pass stays as it is.
+    /// A note with the pass's front. The pass stays as it is, but for the count of its notes.
     pub fn note(&self, pass: &mut Pass) -> Note
         requires pass { IsPassOf self.now pass.old }
-        ensures pass { pass.new ≡ pass.old }
+        ensures pass { IsSamePass pass.old pass.new }
+        ensures view { pass.new.view ≡ view_after_note pass.old.view }
         ensures table { result.table ≡ self.now.table }
         ensures front { result.front ≡ pass.old.view.front }
     {

@@ -1,7 +1,7 @@
 // How a round begins.
 ghost use Rattle.std.specs.Prelude.{◌≡◌, [], IfOk, OnOk};
-ghost use Rattle.cells.specs.Ends.{MayBegin, HasFacts};
-ghost use Rattle.cells.specs.Cutting.{SpeaksForAll};
+ghost use Rattle.cells.specs.Begins.{MayBegin, HasFacts};
+ghost use Rattle.cells.specs.Begins.{SpeaksForAll};
 ghost use Rattle.cells.specs.Tokens.{fresh_passes};
 
 use crate::plays::CutPass;

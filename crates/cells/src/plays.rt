@@ -2,6 +2,7 @@
 ghost use Rattle.std.specs.Prelude.{[], ◌++◌};
 ghost use Rattle.cells.specs.Moves.{Tells, load_head_tells, load_sealed_tells, load_bucket_tells, DrawTells, write_tells, LearnTells, view_after_hear};
 ghost use Rattle.cells.specs.Past.{longest_front};
+ghost use Rattle.cells.specs.Steps.{view_after_note};
 ghost use Rattle.cells.specs.Seats.{pass_seat, note_seat, spent_seat, pass_of, other_passes};
 
 use crate::SeatView;
@@ -43,11 +44,11 @@ impl Play<u64, SeatView> for Learn {
     ghost then = { Tells LearnTells };
 }
 
-// A pass's front gets a seat of its own.
+// A pass's front gets a table seat of its own.
 pub(crate) struct MakeNote;
 
 impl Split<SeatView> for MakeNote {
-    ghost left = { λ seat. seat };
+    ghost left = { λ seat. pass_seat (view_after_note (pass_of seat)) };
 
     ghost right = { λ seat. note_seat (pass_of seat).front };
 }

@@ -1,5 +1,6 @@
-ghost use Rattle.std.specs.Prelude.{◌≡◌, ◌<◌, All};
-ghost use Rattle.cells.specs.Known.{IsSound};
+ghost use Rattle.std.specs.Prelude.{◌≡◌};
+ghost use Rattle.cells.specs.Sound.{IsSound};
+ghost use Rattle.cells.specs.Tokens.{HasBegunCalls, IsPlanned};
 
 use crate::Pass;
 use crate::rule::RoundTable;
@@ -41,11 +42,13 @@ impl Round {
         self.plan
     }
 
-    /// Tells what holds of any pass at any time. Makes no step.
+    /// Tells what holds of the round and of any pass at any time. Makes no step.
     pub fn sound(&self, pass: &Pass)
+        ensures round { IsPlanned self.now }
         ensures view { IsSound pass.now.view }
-        ensures serials { All (λ entry. entry.serial < pass.now.calls) pass.now.view.mine }
+        ensures serials { HasBegunCalls pass.now }
     {
+        let _table = &self.table;
         let _seat = &pass.seat;
     }
 }

@@ -3,7 +3,7 @@ ghost use Rattle.std.specs.List.Sorted.{IsStrictlyIncreasing};
 ghost use Rattle.cells.specs.Ends.{AreAllPasses};
 ghost use Rattle.cells.specs.Tokens.{IsPassOf, fresh_pass, fresh_passes};
 ghost use Rattle.step_core.specs.Openings.{opening_facts, opening_words};
-ghost use Rattle.step_core.specs.declared.format.TheConstants.{MAX_SEATS};
+ghost use Rattle.step_core.specs.Limits.{max_passes};
 
 use super::*;
 use set_model::NoMemory;
@@ -16,7 +16,7 @@ mod notes;
 
 // A round that begins with these keys, and has so many words of room.
 fn begin(alloc: Global, seats: u32, keys: &[u64], room: u64) -> Result<(Round, Vec<Pass>), NoMemory>
-    requires seats { (1 ≤ seats) × (seats ≤ MAX_SEATS) }
+    requires seats { (1 ≤ seats) × (seats ≤ max_passes) }
     requires rising { IsStrictlyIncreasing keys.now }
     requires few { (length keys.now ≤ 100000) × (room ≤ 100000) }
     ensures passes { IfOk result (λ r. r.1.items ≡ fresh_passes r.0) }

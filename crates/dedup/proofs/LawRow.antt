@@ -6,8 +6,8 @@ use Rattle.set_model.specs.Keys.{IsPlaceFor}
 use Rattle.step_core.specs.Content.{row_keys}
 use Rattle.step_core.specs.Drawn.{HasDrawn}
 use Rattle.step_core.specs.Single.{only_row}
-use Rattle.step_core.proofs.LawDrawn.{only_row-count, only_row-keys}
-use Rattle.step_core.proofs.LawSingle.{one_row}
+use Rattle.step_core.proofs.seen.Drawn.{only_row-count, only_row-keys}
+use Rattle.step_core.proofs.seen.Single.{one_row}
 use Rattle.dedup.specs.Table.{HasRoom, IsRow}
 
 -- the only row is a row

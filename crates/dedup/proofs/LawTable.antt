@@ -10,15 +10,15 @@ use Rattle.set_model.specs.Keys.{keys_set, IsPlaceFor}
 use Rattle.set_model.specs.declared.call.Call.TheVariants.{Insert}
 use Rattle.set_model.proofs.LawKeys.{insert-present}
 use Rattle.step_core.specs.Content.{HasMembers, row_keys}
-use Rattle.step_core.specs.Drawn.{HasBuilt, HasReplaced, IsReady}
+use Rattle.step_core.specs.Drawn.{HasBuilt, HasReplaced, MayReplace}
 use Rattle.step_core.specs.Fits.{IsWellFormed}
 use Rattle.step_core.specs.Format.{next_of}
 use Rattle.step_core.specs.Openings.{exponent_from, opening_words, opening_of, rows_of}
 use Rattle.step_core.specs.Single.{HasOneBucket, only_row}
-use Rattle.step_core.proofs.LawKeys.{contains-absent, contains-here, keys_set-insert, IsStrictlyIncreasing-insert}
-use Rattle.step_core.proofs.LawOpened.{opening_words-none, opening-one_bucket}
-use Rattle.step_core.proofs.LawOpening.{length-opening_of}
-use Rattle.step_core.proofs.LawSingle.{one_row}
+use Rattle.step_core.proofs.lists.Keys.{contains-absent, contains-here, keys_set-insert, IsStrictlyIncreasing-insert}
+use Rattle.step_core.proofs.tables.Opened.{opening_words-none, opening-one_bucket}
+use Rattle.step_core.proofs.tables.Written.{length-opening_of}
+use Rattle.step_core.proofs.seen.Single.{one_row}
 use Rattle.dedup.specs.Table.{HasRoom, HasTaken, HoldsFew, size_of}
 use Rattle.dedup.specs.declared.load.TheConstants.{RECORDS}
 use Rattle.dedup.specs.declared.table.TheConstants.{END}
@@ -71,10 +71,10 @@ HasTaken-absent words later place id room free replaced =
     }
 
 -- a row of the old keys and the id is ready to take the place of the old one
-pub IsReady-longer : (words now : List ℕ) (place id : ℕ) → HasRoom words → IsPlaceFor id (row_keys words (only_row words)) place
+pub MayReplace-longer : (words now : List ℕ) (place id : ℕ) → HasRoom words → IsPlaceFor id (row_keys words (only_row words)) place
     → HasBuilt words now (insert (row_keys words (only_row words)) place id)
-    → IsReady words now (insert (row_keys words (only_row words)) place id)
-IsReady-longer words now place id room free built =
+    → MayReplace words now (insert (row_keys words (only_row words)) place id)
+MayReplace-longer words now place id room free built =
     let one = one_row words room.well_formed room.single in
     let old = row_keys words (only_row words) in
     record {

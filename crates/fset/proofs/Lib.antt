@@ -1,2 +1,1 @@
-pub mod LawReads
-pub mod LawFound
+pub mod laws

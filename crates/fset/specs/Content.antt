@@ -1,10 +1,20 @@
 -- Which keys a row holds for a pass that read it.
-use Rattle.std.specs.Prelude.{ℕ, Bool}
+use Rattle.std.specs.Prelude.{ℕ, ◌+◌, ◌==◌, min, Bool, if◌then◌else◌, List, length}
 use Rattle.set_model.specs.Keys.{is_in}
+use Rattle.step_core.specs.Members.{keys_with_op}
+use Rattle.step_core.specs.Rising.{place_in}
 use Rattle.step_core.specs.declared.views.PassView.{PassView}
-use Rattle.cells.specs.Known.{keys_at}
+use Rattle.cells.specs.Known.{block_at, keys_at}
 use Rattle.fset.specs.declared.seen.Seen.{Seen}
 
--- the content of a row without an operation: its keys
-abbrev pub content_of : PassView → Seen → ℕ → Bool
-content_of view seen = is_in (keys_at view seen.at)
+-- the content of a row as it was read: its keys, with its operation applied where the result
+-- decides it
+abbrev pub seen_content : PassView → Seen → ℕ → Bool
+seen_content view seen =
+    if seen.op == 0 then is_in (keys_at view seen.at)
+    else keys_with_op (block_at view.known seen.op) seen.result (is_in (keys_at view seen.at))
+
+-- how many keys are loaded to look for one in a rising list: those below it and the next, if there
+-- is one
+abbrev pub loads_to_find : List ℕ → ℕ → ℕ
+loads_to_find keys key = min (place_in keys key + 1) (length keys)

@@ -1,5 +1,6 @@
 -- A row as a pass read it.
-use Rattle.std.specs.Prelude.{◌≡◌, ℕ, List, [], length}
+use Rattle.std.specs.Prelude.{◌≡◌, ◌≢◌, ℕ, List, [], length, Contains}
+use Rattle.step_core.specs.declared.views.FixedCell.{FixedCell}
 use Rattle.step_core.specs.declared.views.Known.{Known}
 use Rattle.step_core.specs.declared.views.PassView.{PassView}
 use Rattle.cells.specs.Known.{KnowsRow, row_at, keys_at}
@@ -11,23 +12,32 @@ use Rattle.fset.specs.Frames.{Reads}
 abbrev pub KnowsRowAt : PassView → ℕ → Type 0
 KnowsRowAt view at = KnowsRow view at (row_at view.known at)
 
+-- the result of an operation, which is its only cell, changes no more
+abbrev pub fixed_result : ℕ → ℕ → FixedCell
+fixed_result op result = record { at = op; place = 0; word = result }
+
+-- a row without an operation has no result, and one that isn't 0 is known to be that of the
+-- operation
+pub record HasResult (view : PassView) (op result : ℕ) : Type 0 where
+  pub none : op ≡ 0 → result ≡ 0
+  pub settled : result ≢ 0 → Contains view.fixed (fixed_result op result)
+
 -- The words that were read are those of the row that the pass knows there. That stays so while the
 -- pass learns more.
 pub record IsSeen (view : PassView) (seen : Seen) : Type 0 where
   pub known : KnowsRowAt view seen.at
   pub count : seen.count ≡ length (keys_at view seen.at)
   pub op : seen.op ≡ (row_at view.known seen.at).op
-  -- a row without an operation has no result
-  pub result : seen.op ≡ 0 → seen.result ≡ 0
+  pub result : HasResult view seen.op seen.result
 
--- what reading a known row tells
+-- what reading a known row tells: it makes two loads
 pub record ReadsRow (at : ℕ) (old : PassView) (seen : Seen) (new : PassView) : Type 0 where
   pub place : seen.at ≡ at
   -- it is the row that was known
   pub same : row_at new.known at ≡ row_at old.known at
   pub agrees : IsSeen new seen
   pub learned : List Known
-  pub reads : Reads learned old new
+  pub reads : Reads learned 2 old new
   -- a row without an operation makes nothing known
   pub nothing : seen.op ≡ 0 → learned ≡ []
   -- and the front stays where the pass has no mark on the row

@@ -1,27 +1,30 @@
 // Looking for a key in a row.
 ghost use Rattle.std.specs.Prelude.{◌≡◌, ◌<◌, length, slice_index};
+ghost use Rattle.cells.specs.Frames.{after_reads};
 ghost use Rattle.cells.specs.Known.{keys_at};
 ghost use Rattle.cells.specs.Tokens.{IsPassOf, IsSamePass};
-ghost use Rattle.fset.specs.Content.{content_of};
+ghost use Rattle.fset.specs.Content.{loads_to_find, seen_content};
 ghost use Rattle.fset.specs.Seen.{KnowsRowAt, IsSeen};
 ghost use Rattle.set_model.specs.Keys.{is_in};
 ghost use Rattle.step_core.specs.Rising.{place_in};
 
 use crate::Seen;
 use cells::{Pass, Round};
-use step_core::FIRST_KEY;
+use step_core::key_place;
 
-/// Whether the content of the row has the key. The row must have no operation. The pass knows no
-/// more than before.
+/// Whether the content of the row has the key. The keys are loaded in order, each once, up to the
+/// first that isn't below the key. The pass knows no more than before.
 pub fn find(round: &Round, pass: &mut Pass, seen: &Seen, key: u64) -> bool
     requires pass { IsPassOf round.now pass.old }
     requires knows { IsSeen pass.old.view seen.now }
-    requires plain { seen.now.op ≡ 0 }
     ensures pass { IsSamePass pass.old pass.new }
-    ensures answer { result ≡ content_of pass.old.view seen.now key }
-    ensures view { pass.new.view ≡ pass.old.view }
+    ensures answer { result ≡ seen_content pass.old.view seen.now key }
+    ensures view { pass.new.view
+        ≡ after_reads (loads_to_find (keys_at pass.old.view seen.now.at) key) pass.old.view }
 {
-    place_of(round, pass, seen, key).taken
+    // No operation is published yet, so the content is the keys.
+    round.sound(pass);
+    place_among(round, pass, seen, key).taken
 }
 
 // The place of a key among the keys of a row.
@@ -34,13 +37,14 @@ pub(crate) struct Place {
 }
 
 // The place of the key. The keys rise, so none is loaded behind it.
-fn place_of(round: &Round, pass: &mut Pass, seen: &Seen, key: u64) -> Place
+fn place_among(round: &Round, pass: &mut Pass, seen: &Seen, key: u64) -> Place
     requires pass { IsPassOf round.now pass.old }
     requires knows { IsSeen pass.old.view seen.now }
     ensures pass { IsSamePass pass.old pass.new }
     ensures before { result.before ≡ place_in (keys_at pass.old.view seen.now.at) key }
     ensures taken { result.taken ≡ is_in (keys_at pass.old.view seen.now.at) key }
-    ensures view { pass.new.view ≡ pass.old.view }
+    ensures view { pass.new.view
+        ≡ after_reads (loads_to_find (keys_at pass.old.view seen.now.at) key) pass.old.view }
 {
     round.sound(pass);
     for i in 0..seen.count {
@@ -65,8 +69,8 @@ fn key_at(round: &Round, pass: &mut Pass, at: u64, i: u64) -> u64
     requires fits { i < length (keys_at pass.old.view at) }
     ensures pass { IsSamePass pass.old pass.new }
     ensures answer { result ≡ slice_index (keys_at pass.old.view at) i }
-    ensures view { pass.new.view ≡ pass.old.view }
+    ensures view { pass.new.view ≡ after_reads 1 pass.old.view }
 {
     round.sound(pass);
-    round.load_sealed(pass, at + FIRST_KEY + i)
+    round.load_sealed(pass, key_place(at, i))
 }

@@ -2,7 +2,7 @@
 //!
 //! A *row* has the keys of one bucket, rising, and may name an *operation*, an insert or a remove
 //! that its pass announced. `Seen` is a row as a pass read it. Its *content* is the keys, with the
-//! operation applied where that is decided: `content_of` of `specs/Content.antt`. So far only rows
+//! operation applied where that is decided: `seen_content` of `specs/Content.antt`. So far only rows
 //! without an operation are looked into.
 //!
 //! The promise: `find` answers whether the content has a key, whatever other passes do meanwhile,

@@ -3,6 +3,7 @@ ghost use Rattle.cells.specs.Tokens.{IsPassOf, IsSamePass};
 ghost use Rattle.fset.specs.Seen.{KnowsRowAt, ReadsRow};
 
 use cells::{Pass, Round};
+use step_core::op_place;
 
 /// A row as a pass read it.
 #[derive(Clone, Copy, Debug, PartialEq, Eq)]
@@ -17,8 +18,8 @@ pub struct Seen {
     pub result: u64,
 }
 
-/// Reads the row at the address, which the pass must know. Of a row with an operation the pass then
-/// knows that too, but its result isn't loaded: it is given as 0.
+/// Reads the row at the address, which the pass must know, by two loads. Of a row with an operation
+/// the pass then knows that too, but its result isn't loaded: it is given as 0.
 pub fn read_row(round: &Round, pass: &mut Pass, at: u64) -> Seen
     requires pass { IsPassOf round.now pass.old }
     requires knows { KnowsRowAt pass.old.view at }
@@ -27,7 +28,7 @@ pub fn read_row(round: &Round, pass: &mut Pass, at: u64) -> Seen
 {
     round.sound(pass);
     let count = round.load_sealed(pass, at);
-    let op = round.load_sealed(pass, at + 1);
+    let op = round.load_sealed(pass, op_place(at));
     round.sound(pass);
     Seen {
         at,

@@ -9,7 +9,7 @@ use cells::{Pass, Plan, Round};
 use set_model::NoMemory;
 use std::alloc::Global;
 use std::test::Fail;
-use step_core::{FIRST_BUCKET, Layout, opening, opening_words, spot};
+use step_core::{FIRST_BUCKET, Layout, opening, opening_words, row_address, spot};
 
 // A round of one pass that begins with these keys, and the pass.
 fn begin(alloc: Global, keys: &[u64]) -> Result<(Round, Pass), NoMemory>
@@ -61,18 +61,15 @@ fn row_in(round: &Round, pass: &mut Pass, bucket: u64) -> Option<Seen>
         return None;
     }
     round.sound(pass);
-    Some(read_row(round, pass, word / 2))
+    Some(read_row(round, pass, row_address(word)))
 }
 
-// Whether the row in the bucket has the key, if there is one without an operation.
+// Whether the row in the bucket has the key, if there is one.
 fn found_in(round: &Round, pass: &mut Pass, bucket: u64, key: u64) -> Option<bool>
     requires pass { IsPassOf round.now pass.old }
     ensures pass { IsSamePass pass.old pass.new }
 {
     let seen = row_in(round, pass, bucket)?;
-    if seen.op != 0 {
-        return None;
-    }
     Some(find(round, pass, &seen, key))
 }
 

@@ -38,7 +38,7 @@ pub record WritesKey (before now later keys : List ℕ) (i at value : ℕ) : Typ
   pub step : later ≡ after_step (Write at value) now
 
 -- a row of these keys is ready to take the place of the only one
-pub record IsReady (before now : List ℕ) (keys : List ℕ) : Type 0 where
+pub record MayReplace (before now : List ℕ) (keys : List ℕ) : Type 0 where
   pub well_formed : IsWellFormed before
   pub single : HasOneBucket before
   pub built : HasBuilt before now keys

@@ -10,3 +10,6 @@ pub mod Single
 pub mod States
 pub mod Steps
 pub mod Plans
+pub mod Limits
+pub mod Members
+pub mod Ledger

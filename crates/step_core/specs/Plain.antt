@@ -3,7 +3,8 @@ use Rattle.std.specs.Prelude.{◌≡◌, ℕ, zero, suc, ◌+◌, ◌^◌, ◌<�
 use Rattle.std.specs.List.Sorted.{IsStrictlyIncreasing}
 use Rattle.step_core.specs.Format.{head_of, next_of, base_of, Stands, mutable_word, row_address, row_words}
 use Rattle.step_core.specs.Content.{bucket_word, row_keys, InClass}
-use Rattle.step_core.specs.declared.format.TheConstants.{FIRST_BUCKET, FIRST_KEY, MAX_EXPONENT}
+use Rattle.step_core.specs.Limits.{max_exponent}
+use Rattle.step_core.specs.declared.format.TheConstants.{FIRST_BUCKET, FIRST_KEY}
 
 -- the head has no predecessor, and no row in a bucket of it has an operation
 pub record HasPlainRows (words : List ℕ) : Type 0 where
@@ -35,7 +36,7 @@ pub record PlainTable : Type 0 where
 -- the order of the buckets
 pub record IsPlainTable (seats : ℕ) (words : List ℕ) (table : PlainTable) : Type 0 where
   pub first : base_of seats ≤ table.head
-  pub small : table.exponent ≤ MAX_EXPONENT
+  pub small : table.exponent ≤ max_exponent
   pub here : head_of words ≡ table.head
   pub sealed : Stands words table.head (table.exponent ∷ 0 ∷ [])
   pub named : (bucket : ℕ) → bucket < 2 ^ table.exponent

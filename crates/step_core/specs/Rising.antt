@@ -1,11 +1,12 @@
 -- Rising lists of keys: the place of a key, the list with and without it, and the one change
 -- between two.
-use Rattle.std.specs.Prelude.{◌≡◌, ℕ, true, false, nat_lt, nat_eq, if◌then◌else◌, List, [], ◌∷◌, Option, Some, None}
+use Rattle.std.specs.Prelude.{◌≡◌, ℕ, Bool, true, false, nat_lt, nat_eq, if◌then◌else◌, List, [], ◌∷◌, Option, Some, None}
 use Rattle.std.specs.List.{prefix_len}
-use Rattle.std.specs.Str.{bytes_eq}
+use lib.Pointwise.{pointwise}
 use Rattle.set_model.specs.Keys.{is_in}
 use Rattle.set_model.specs.declared.call.Call.{Call}
 use Rattle.set_model.specs.declared.call.Call.TheVariants.{Insert, Remove, Contains}
+use Rattle.set_model.specs.declared.entry.Entry.{Entry}
 
 -- the place of the key in the rising list, or where it would stand: behind the keys that are below
 -- it
@@ -31,11 +32,21 @@ pub record Change : Type 0 where
   pub call : Call
   pub key : ℕ
 
+-- whether two lists of keys are one
+abbrev pub is_same : List ℕ → List ℕ → Bool
+is_same = pointwise nat_eq
+
 -- the rising list after a call at the key
 abbrev pub keys_after_call : Call → ℕ → List ℕ → List ℕ
 keys_after_call Insert key keys = with_key key keys
 keys_after_call Remove key keys = without_key key keys
 keys_after_call Contains key keys = keys
+
+-- the rising list after the calls of a history, in order
+abbrev pub keys_after : List ℕ → List Entry → List ℕ
+keys_after keys [] = keys
+keys_after keys (entry ∷ entries) =
+    keys_after (keys_after_call entry.call entry.key keys) entries
 
 -- the call changes the keys: an insert of one that they lack, or a remove of one that they have
 abbrev pub ChangesKeys : Call → ℕ → List ℕ → Type 0
@@ -53,10 +64,10 @@ pub record IsChange (old new : List ℕ) (call : Call) (key : ℕ) : Type 0 wher
 unfoldable pub change_of : List ℕ → List ℕ → Option Change
 change_of [] [] = None
 change_of [] (now ∷ new) =
-    if bytes_eq [] new then Some (record { call = Insert; key = now }) else None
+    if is_same [] new then Some (record { call = Insert; key = now }) else None
 change_of (was ∷ old) [] =
-    if bytes_eq old [] then Some (record { call = Remove; key = was }) else None
+    if is_same old [] then Some (record { call = Remove; key = was }) else None
 change_of (was ∷ old) (now ∷ new) =
     if nat_eq was now then change_of old new
-    else (if bytes_eq (was ∷ old) new then Some (record { call = Insert; key = now })
-    else (if bytes_eq old (now ∷ new) then Some (record { call = Remove; key = was }) else None))
+    else (if is_same (was ∷ old) new then Some (record { call = Insert; key = now })
+    else (if is_same old (now ∷ new) then Some (record { call = Remove; key = was }) else None))

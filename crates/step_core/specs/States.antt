@@ -1,6 +1,6 @@
 -- What the words of a round stand for, its history apart: fixed words, published blocks, cells and
 -- the passes' views.
-use Rattle.std.specs.Prelude.{◌≡◌, ℕ, List, [], map, Option, Some, None}
+use Rattle.std.specs.Prelude.{◌≡◌, ℕ, ◌-◌, List, [], map, Option, Some, None}
 use Rattle.std.specs.List.{range_with_len}
 use mathlib.Core.Option.{some}
 use lib.ListN.{get_elem?}
@@ -15,6 +15,7 @@ use Rattle.step_core.specs.declared.published.RowBlock.{RowBlock}
 use Rattle.step_core.specs.declared.published.OpBlock.{OpBlock}
 use Rattle.step_core.specs.declared.views.PassView.{PassView}
 use Rattle.step_core.specs.declared.views.RoundFacts.{RoundFacts}
+use Rattle.step_core.specs.declared.views.StepCounts.{StepCounts}
 
 -- its published blocks by address, its cells by block and place, and its views by the number of the
 -- pass
@@ -45,6 +46,19 @@ IsOp blocks at op = blocks at ≡ Some (Op op)
 abbrev pub Each : (ℕ → PassView → Type 0) → List PassView → Type 0
 Each P views = (number : ℕ) (view : PassView) → get_elem? views number ≡ some view → P number view
 
+-- no step has been made
+abbrev pub no_steps : StepCounts
+no_steps = record {
+  head_loads = 0;
+  sealed_loads = 0;
+  bucket_loads = 0;
+  draws = 0;
+  writes = 0;
+  row_swaps = 0;
+  notes = 0;
+  learned = 0;
+}
+
 -- what a pass knows as its round begins: nothing but the round's facts and its own number
 abbrev pub fresh_view : RoundFacts → ℕ → PassView
 fresh_view facts number = record {
@@ -56,7 +70,7 @@ fresh_view facts number = record {
   hands = [];
   drawn = 0;
   spent = None;
-  ticket = None;
+  tickets = [];
   flight = None;
   mine = [];
   used = 0;
@@ -69,10 +83,14 @@ fresh_view facts number = record {
   nils = [];
   trials = [];
   fixed = [];
-  full = [];
+  filled = [];
   events = [];
+  begun = 0;
+  won_since = 0;
   won_before = 0;
-  cursor = 0;
+  lost_before = 0;
+  cursor = facts.seats - 1;
+  made = no_steps;
 }
 
 -- the views of a round's passes as it begins

@@ -1,4 +1,6 @@
 // Where the words lie: the fixed words from the front on, then each block's own words.
+ghost use Rattle.std.specs.Prelude.{◌≡◌, ◌+◌, ◌*◌, ◌<◌, ◌^◌};
+ghost use Rattle.step_core.specs.Format.{mutable_word, row_address};
 
 /// The word that holds the address of the head generation.
 pub const HEAD: u64 = 0;
@@ -42,3 +44,35 @@ pub const MAX_WORDS: u64 = 1 << 28;
 
 /// The most turns of a plan, tried or helped.
 pub const MAX_TURNS: u32 = 1_000_000;
+
+/// The bucket word that names a mutable row: twice the row's address.
+pub fn mutable_word(row: u64) -> u64
+    requires { 2 * row < 2 ^ 64 }
+    ensures { result ≡ mutable_word row }
+{
+    2 * row
+}
+
+/// The address of the row that a bucket word names, whether the bucket is frozen or not.
+pub fn row_address(word: u64) -> u64
+    ensures { result ≡ row_address word }
+{
+    word / 2
+}
+
+/// The word of a row that holds the address of its operation, or 0. At the row's address itself
+/// stands the number of its keys.
+pub fn op_place(row: u64) -> u64
+    requires { row + 1 < 2 ^ 64 }
+    ensures { result ≡ row + 1 }
+{
+    row + 1
+}
+
+/// The word of a row that holds its key number `i`, counted from 0.
+pub fn key_place(row: u64, i: u64) -> u64
+    requires { row + FIRST_KEY + i < 2 ^ 64 }
+    ensures { result ≡ row + FIRST_KEY + i }
+{
+    row + FIRST_KEY + i
+}

@@ -28,7 +28,8 @@ mod words;
 pub use exponents::opening_words;
 pub use format::{
     FIRST_ANNOUNCED, FIRST_BUCKET, FIRST_KEY, HEAD, MAX_DRAW, MAX_EXPONENT, MAX_KEYS, MAX_SEATS,
-    MAX_TURNS, MAX_WORDS, NEXT, OP_LEN, SPOT_FACTOR, TICKET,
+    MAX_TURNS, MAX_WORDS, NEXT, OP_LEN, SPOT_FACTOR, TICKET, key_place, mutable_word, op_place,
+    row_address,
 };
 pub use kinds::Step;
 pub use layout::{Layout, Plan};
@@ -38,8 +39,8 @@ pub use reading::{exponent_of, live_keys};
 pub use spots::spot;
 pub use stepping::step;
 pub use views::{
-    AnnounceLoad, BucketLoad, Event, FixedCell, FullBucket, HeadLoad, Known, Mark, NilBucket,
-    OpenTurn, PassView, RoundFacts, Trial,
+    AnnounceLoad, BlockTicket, BucketLoad, Event, FilledBucket, FixedCell, HeadLoad, Known, Mark,
+    NilBucket, OpenTurn, PassView, RoundFacts, StepCounts, Trial,
 };
 pub use words::Words;
 

@@ -8,10 +8,11 @@ ghost use Rattle.step_core.specs.Fits.{BeginsRound, IsWellFormed};
 ghost use Rattle.step_core.specs.Format.{base_of, row_words};
 ghost use Rattle.step_core.specs.Openings.{generation_words, opening_facts, opening_of, opening_words, rows_of};
 ghost use Rattle.step_core.specs.Plain.{HasPlainRows};
-ghost use Rattle.step_core.specs.declared.format.TheConstants.{MAX_EXPONENT, MAX_KEYS};
+ghost use Rattle.step_core.specs.Limits.{max_exponent, max_keys};
 
 use crate::bucket_order::{bucket_end, in_bucket_order};
 use crate::exponents::exponent_for;
+use crate::format::mutable_word;
 use crate::spots::bucket_count;
 use crate::{FIRST_ANNOUNCED, FIRST_BUCKET, FIRST_KEY, Layout, Words, opening_words};
 use set_model::NoMemory;
@@ -21,7 +22,7 @@ use std::alloc::Global;
 /// zeros up to `cap`.
 pub fn opening(alloc: Global, layout: &Layout, keys: &[u64]) -> Result<Words, NoMemory>
     requires rising { IsStrictlyIncreasing keys.now }
-    requires few { length keys.now ≤ MAX_KEYS }
+    requires few { length keys.now ≤ max_keys }
     requires fits { opening_words layout.now.seats keys.now ≤ layout.now.cap }
     ensures words { IfOk result
         (λ words. words ≡ opening_of layout.now.seats layout.now.cap keys.now) }
@@ -36,7 +37,7 @@ pub fn opening(alloc: Global, layout: &Layout, keys: &[u64]) -> Result<Words, No
 
 // The words alone.
 fn laid_out(alloc: Global, layout: &Layout, keys: &[u64]) -> Result<Words, NoMemory>
-    requires few { length keys.now ≤ MAX_KEYS }
+    requires few { length keys.now ≤ max_keys }
     requires fits { opening_words layout.now.seats keys.now ≤ layout.now.cap }
     ensures { IfOk result (λ words. words ≡ opening_of layout.now.seats layout.now.cap keys.now) }
 {
@@ -63,9 +64,9 @@ fn push_fixed(words: &mut Vec<u64>, seats: u32, next: u64) -> Result<(), NoMemor
 
 // Writes a generation behind the words, whose rows will follow it.
 fn push_generation(words: &mut Vec<u64>, keys: &[u64], exponent: u32) -> Result<(), NoMemory>
-    requires small { exponent ≤ MAX_EXPONENT }
+    requires small { exponent ≤ max_exponent }
     requires order { IsNonDecreasingBy (key_bucket exponent) keys.now }
-    requires few { length keys.now ≤ MAX_KEYS }
+    requires few { length keys.now ≤ max_keys }
     requires base { length words.old.items ≤ 2 ^ 33 }
     ensures { OnOk result (words.new.items
         ≡ words.old.items ++ generation_words (length words.old.items) exponent keys.now) }
@@ -75,7 +76,7 @@ fn push_generation(words: &mut Vec<u64>, keys: &[u64], exponent: u32) -> Result<
     words.extend_from_slice(&[u64::from(exponent), 0])?;
     let mut first = 0;
     for bucket in 0..buckets {
-        words.push(2 * (rows + FIRST_KEY * bucket + first as u64))?;
+        words.push(mutable_word(rows + FIRST_KEY * bucket + first as u64))?;
         first = bucket_end(keys, exponent, bucket, first);
     }
     Ok(())
@@ -83,7 +84,7 @@ fn push_generation(words: &mut Vec<u64>, keys: &[u64], exponent: u32) -> Result<
 
 // Writes the rows of all buckets behind the words.
 fn push_rows(words: &mut Vec<u64>, keys: &[u64], exponent: u32) -> Result<(), NoMemory>
-    requires small { exponent ≤ MAX_EXPONENT }
+    requires small { exponent ≤ max_exponent }
     requires order { IsNonDecreasingBy (key_bucket exponent) keys.now }
     ensures { OnOk result
         (words.new.items ≡ words.old.items ++ rows_of exponent keys.now (2 ^ exponent)) }

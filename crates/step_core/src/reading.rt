@@ -4,8 +4,9 @@ ghost use Rattle.set_model.specs.Keys.{keys_set};
 ghost use Rattle.step_core.specs.Content.{HasMembers, exponent_of, row_keys};
 ghost use Rattle.step_core.specs.Fits.{IsWellFormed};
 ghost use Rattle.step_core.specs.Plain.{HasPlainRows, bucket_row, keys_before};
-ghost use Rattle.step_core.specs.declared.format.TheConstants.{MAX_EXPONENT};
+ghost use Rattle.step_core.specs.Limits.{max_exponent};
 
+use crate::format::row_address;
 use crate::spots::bucket_count;
 use crate::{FIRST_BUCKET, FIRST_KEY, HEAD, Words};
 use set_model::NoMemory;
@@ -38,18 +39,18 @@ fn collected(alloc: Global, words: &Words) -> Result<Vec<u64>, NoMemory>
 }
 
 /// The exponent of the head generation.
-#[tactic(auto, using(crate::proofs::LawHead::head_shown))]
+#[tactic(auto, using(crate::proofs::seen::Head::head_shown))]
 pub fn exponent_of(words: &Words) -> u32
     requires { IsWellFormed words.now }
     ensures exponent { result ≡ exponent_of words.now }
-    ensures small { result ≤ MAX_EXPONENT }
+    ensures small { result ≤ max_exponent }
 {
     let _len = words.len();
     words.word(words.word(HEAD)) as u32
 }
 
 // The keys of the row in the head's bucket.
-#[tactic(auto, using(crate::proofs::LawHead::head_shown, crate::proofs::LawLive::live_row_shown))]
+#[tactic(auto, using(crate::proofs::seen::Head::head_shown, crate::proofs::tables::Live::live_row_shown))]
 fn keys_of_bucket(words: &Words, bucket: u64) -> &[u64]
     requires well_formed { IsWellFormed words.now }
     requires plain { HasPlainRows words.now }
@@ -58,6 +59,6 @@ fn keys_of_bucket(words: &Words, bucket: u64) -> &[u64]
 {
     // With the words' number read, their places are known to fit 64 bits.
     let _len = words.len();
-    let row = words.word(words.word(HEAD) + FIRST_BUCKET + bucket) / 2;
+    let row = row_address(words.word(words.word(HEAD) + FIRST_BUCKET + bucket));
     words.part(row + FIRST_KEY, words.word(row))
 }

@@ -1,7 +1,7 @@
 // A key's spot, and its bucket among a power of two.
 ghost use Rattle.std.specs.Prelude.{◌≡◌, ◌≤◌, ◌^◌};
 ghost use Rattle.step_core.specs.Content.{spot_of, bucket_of};
-ghost use Rattle.step_core.specs.declared.format.TheConstants.{MAX_EXPONENT};
+ghost use Rattle.step_core.specs.Limits.{max_exponent};
 
 use crate::SPOT_FACTOR;
 
@@ -14,19 +14,19 @@ pub fn spot(key: u64) -> u32
 }
 
 /// The number of buckets of a generation of this exponent.
-#[tactic(auto, using(crate::proofs::LawSpots::sizes))]
+#[tactic(auto, using(crate::proofs::seen::Spots::sizes))]
 pub(crate) fn bucket_count(exponent: u32) -> u64
-    requires { exponent ≤ MAX_EXPONENT }
+    requires { exponent ≤ max_exponent }
     ensures count { result ≡ 2 ^ exponent }
-    ensures small { 2 ^ exponent ≤ 2 ^ MAX_EXPONENT }
+    ensures small { 2 ^ exponent ≤ 2 ^ max_exponent }
 {
     1 << exponent
 }
 
 /// The bucket of the key, counted from 0, in a generation of this exponent.
-#[tactic(auto, using(crate::proofs::LawSpots::masks))]
+#[tactic(auto, using(crate::proofs::seen::Spots::masks))]
 pub(crate) fn bucket_of(key: u64, exponent: u32) -> u64
-    requires { exponent ≤ MAX_EXPONENT }
+    requires { exponent ≤ max_exponent }
     ensures { result ≡ bucket_of exponent (spot_of key) }
 {
     u64::from(spot(key)) & (bucket_count(exponent) - 1)

@@ -52,6 +52,36 @@ pub struct AnnounceLoad {
     pub word: u64,
     /// How many events the round had then.
     pub events: u64,
+    /// How many turns the pass had lost then.
+    pub lost: u64,
+}
+
+/// A ticket that was drawn for the block of an operation.
+pub struct BlockTicket {
+    /// The address of the block.
+    pub block: u64,
+    /// The ticket.
+    pub ticket: u64,
+}
+
+/// How many steps of each kind a pass has made.
+pub struct StepCounts {
+    /// Loads of HEAD.
+    pub head_loads: u64,
+    /// Loads of sealed words.
+    pub sealed_loads: u64,
+    /// Loads of bucket words.
+    pub bucket_loads: u64,
+    /// Draws.
+    pub draws: u64,
+    /// Writes into blocks in hand.
+    pub writes: u64,
+    /// Exchanges of bucket words, won or lost.
+    pub row_swaps: u64,
+    /// Notes made. Each is one load of HEAD that isn't among the others.
+    pub notes: u64,
+    /// Notes learned from. Each is two loads of HEAD that aren't among the others.
+    pub learned: u64,
 }
 
 /// A row of which a pass knows: at some prefix of the history, no shorter than the front, the set
@@ -113,7 +143,7 @@ pub struct FixedCell {
 }
 
 /// A bucket that isn't nil.
-pub struct FullBucket {
+pub struct FilledBucket {
     /// The address of the generation.
     pub at: u64,
     /// The bucket, from 0.
@@ -161,8 +191,8 @@ pub struct PassView {
     pub drawn: u64,
     /// The place that its draw past the end found, if it made one. It draws no more.
     pub spent: Option<u64>,
-    /// The ticket that it drew and that stands in no announced operation yet.
-    pub ticket: Option<u64>,
+    /// The tickets that it drew and that stand in no announced operation yet.
+    pub tickets: LinkedList<BlockTicket>,
     /// The address of its announced operation, until it has the operation's result.
     pub flight: Option<u64>,
     /// Its answered entries, in order.
@@ -179,7 +209,7 @@ pub struct PassView {
     pub asked: LinkedList<AnnounceLoad>,
     /// The rows that it marked.
     pub marks: LinkedList<Mark>,
-    /// The generations that it loaded as the head.
+    /// The generations that it loaded as the head, the latest first.
     pub heads: LinkedList<HeadLoad>,
     /// The buckets that it found nil.
     pub nils: LinkedList<NilBucket>,
@@ -188,11 +218,19 @@ pub struct PassView {
     /// The cells that it knows to change no more.
     pub fixed: LinkedList<FixedCell>,
     /// The buckets that it knows not to be nil.
-    pub full: LinkedList<FullBucket>,
-    /// The events of the round that it knows, in order.
+    pub filled: LinkedList<FilledBucket>,
+    /// The events of the round that it knows, the latest first.
     pub events: LinkedList<Event>,
-    /// How many exchanges it had won when its last write call began.
+    /// How many events the round had once its last write call had begun, or 0.
+    pub begun: u64,
+    /// How many exchanges it won since.
+    pub won_since: u64,
+    /// How many exchanges it had won when it announced its last operation.
     pub won_before: u64,
-    /// The number of the pass that it helped in its last write call.
+    /// How many turns it had lost then.
+    pub lost_before: u64,
+    /// The number of the pass that it helps in its last write call.
     pub cursor: u64,
+    /// How many steps it has made.
+    pub made: StepCounts,
 }

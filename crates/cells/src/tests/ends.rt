@@ -1,11 +1,11 @@
 ghost use Rattle.std.specs.Prelude.{◌≡◌, ◌≤◌};
-ghost use Rattle.step_core.specs.declared.format.TheConstants.{MAX_SEATS};
+ghost use Rattle.step_core.specs.Limits.{max_passes};
 
 use super::*;
 use std::test::Fail;
 
 fn begin_and_end(alloc: Global, seats: u32) -> Result<Words, NoMemory>
-    requires { (1 ≤ seats) × (seats ≤ MAX_SEATS) }
+    requires { (1 ≤ seats) × (seats ≤ max_passes) }
 {
     let (round, passes) = begin(alloc, seats, &[1, 2, 3, 4, 5], 12)?;
     ended(alloc, round, passes)

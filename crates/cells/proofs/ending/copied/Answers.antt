@@ -1,6 +1,6 @@
 use Rattle.std.proofs.Common.{ℕ, List, [], ◌∷◌, ◌++◌, sym, ap, ◌∙◌, arith}
 use Rattle.std.specs.Mem.Slots.{slots_items}
-use Rattle.cells.proofs.LawEnds.{take-more_at}
+use Rattle.cells.proofs.laws.Ends.{take-more_at}
 use Rattle.cells.proofs.ending.copied.Goals as goal
 
 -- one word more is there

@@ -1,8 +1,8 @@
-use Rattle.std.proofs.Common.{ap, ◌∙◌}
+use Rattle.std.proofs.Common.{rules, ap, ◌∙◌}
 use Rattle.cells.specs.Seats.{facts_of}
 use Rattle.cells.specs.Tokens.{PassValue}
-use Rattle.cells.proofs.KeepsSeats.{gather_keeps}
-use Rattle.cells.proofs.LawGathering.{gathered_last, gathered_more, last_ours, seat_whole}
+use Rattle.cells.proofs.keeps.Seats.{gather_keeps}
+use Rattle.cells.proofs.laws.Gathering.{gathered_last, gathered_more, all_begun, last_ours, seat_whole}
 use Rattle.cells.proofs.ending.gathered.Goals as goal
 
 -- the last pass's seat is the first to take others in
@@ -37,3 +37,9 @@ loop-pass-preserved c =
     c.pop-in-loop-pass.new.self.items c.in-Some-pop.pass c.pass.inside c.loop-pass.seat.table_id
     c.join_seat.new.seat.table_id c.loop-pass.seat.me c.join_seat.new.seat.me c.loop-pass.invariant
     c.in-Some-pop.ensures.items c.pass.view_is c.pass.invariant joined.0 joined.2
+
+-- each pass has begun the calls of its entries
+pub returns-clause-serials : goal.returns-clause-serials
+returns-clause-serials c =
+    all_begun c.args.table.now.shared.table_id c.args.passes.items c.loop-pass.passes.items c.loop-pass.seat.table_id c.loop-pass.seat.me
+    c.loop-pass.invariant (search rules)

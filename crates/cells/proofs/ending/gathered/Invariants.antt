@@ -1,5 +1,5 @@
 use Rattle.std.proofs.Common.{vec_len}
-use Rattle.cells.proofs.LawGathering.{IsGathered}
+use Rattle.cells.proofs.laws.Gathering.{IsGathered}
 use Rattle.cells.proofs.ending.gathered.Given as goal
 
 -- the seat has the passes behind those that are left

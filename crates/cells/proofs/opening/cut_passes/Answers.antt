@@ -1,7 +1,7 @@
 use Rattle.std.proofs.Common.{[], ◌<◌, ap, sym, ◌∙◌, refl, arith}
 use Rattle.cells.specs.Seats.{facts_of, pass_seat, pass_of}
 use Rattle.cells.specs.Tokens.{RoundValue}
-use Rattle.cells.proofs.LawCutting.{cut_none, cut_allowed, cut_pass, cut_more, cut_all, fresh_whole, round_seats, round_small, round_word}
+use Rattle.cells.proofs.laws.Cutting.{cut_none, cut_allowed, cut_pass, cut_more, cut_all, fresh_whole, round_seats, round_small, round_word}
 use Rattle.cells.proofs.opening.cut_passes.Goals as goal
 
 -- before the first cut the seat has all passes

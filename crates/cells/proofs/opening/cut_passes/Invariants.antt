@@ -1,4 +1,4 @@
-use Rattle.cells.proofs.LawCutting.{IsCut}
+use Rattle.cells.proofs.laws.Cutting.{IsCut}
 use Rattle.cells.proofs.opening.cut_passes.Given as goal
 
 -- the passes below the number have their seats, and the first seat has the rest

@@ -7,7 +7,7 @@ use Rattle.step_core.specs.Format.{next_of}
 use Rattle.step_core.specs.Steps.{after_step}
 use Rattle.step_core.specs.declared.kinds.Step.TheVariants.{Draw, Write}
 use Rattle.step_core.specs.declared.format.TheConstants.{FIRST_KEY}
-use Rattle.step_core.proofs.LawDrawn.{drawn, written, written_key, all_written}
+use Rattle.step_core.proofs.seen.Drawn.{drawn, written, written_key, all_written}
 use Rattle.dedup.specs.Table.{IsRow, size_of}
 use Rattle.dedup.proofs.LawRow.{IsRow-drawn, old_keys}
 use Rattle.dedup.proofs.table.build.Goals as goal

@@ -2,7 +2,7 @@ use Rattle.std.proofs.Common.{◌≡◌, ℕ, List, [], ◌∷◌, ◌++◌, ◌
 use Rattle.std.proofs.lemmas.List.{take_more, take_all}
 use Rattle.set_model.specs.Keys.{keys_set}
 use Rattle.idfiles.specs.declared.id_record.IdRecord.{IdRecord}
-use Rattle.step_core.proofs.LawOpened.{opening_words-none}
+use Rattle.step_core.proofs.tables.Opened.{opening_words-none}
 use Rattle.dedup.specs.Records.{AreChanging, ids_of}
 use Rattle.dedup.specs.Table.{HoldsFew}
 use Rattle.dedup.specs.declared.table.TheConstants.{END}

@@ -6,10 +6,10 @@ use Rattle.step_core.specs.Drawn.{HasBuilt, IsSwap}
 use Rattle.step_core.specs.Format.{head_of, next_of, mutable_word}
 use Rattle.step_core.specs.Single.{only_row}
 use Rattle.step_core.specs.declared.format.TheConstants.{FIRST_BUCKET}
-use Rattle.step_core.proofs.LawDrawn.{swapped}
+use Rattle.step_core.proofs.seen.Drawn.{swapped}
 use Rattle.dedup.specs.Table.{IsRow, HasTaken}
 use Rattle.dedup.proofs.LawRow.{IsRow-only}
-use Rattle.dedup.proofs.LawTable.{HasTaken-present, HasTaken-absent, IsReady-longer}
+use Rattle.dedup.proofs.LawTable.{HasTaken-present, HasTaken-absent, MayReplace-longer}
 use Rattle.dedup.proofs.table.insert.Goals as goal
 
 -- the row in the bucket is the only one
@@ -60,7 +60,7 @@ returns c =
     let free = subst (λ (k : List ℕ). IsPlaceFor id k place) (λ i. row_keys (same i) (row i)) c.in-Err.ensures.absent in
     let row_built = subst (λ (w : List ℕ). HasBuilt w built (insert (row_keys w (c.load_bucket-found.result / 2)) place id)) before
     c.build-start.ensures.built in
-    let ready = IsReady-longer words built place id c.requires free
+    let ready = MayReplace-longer words built place id c.requires free
     (subst (λ (r : ℕ). HasBuilt words built (insert (row_keys words r) place id)) row row_built) in
     let start : 2 * c.build-start.result ≡ mutable_word (next_of words) =
     ap (λ (w : ℕ). 2 * w) (c.build-start.ensures.start ∙ ap next_of before) in

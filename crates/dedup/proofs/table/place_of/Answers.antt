@@ -1,7 +1,7 @@
 use Rattle.std.proofs.Common.{◌≡◌, ℕ, ◌+◌, ◌<◌, List, slice_index, ap, ◌∙◌, arith}
 use Rattle.step_core.specs.Content.{row_keys}
 use Rattle.step_core.specs.declared.format.TheConstants.{FIRST_KEY}
-use Rattle.step_core.proofs.LawSingle.{row_keys-at}
+use Rattle.step_core.proofs.seen.Single.{row_keys-at}
 use Rattle.dedup.proofs.LawRow.{IsPlaceFor-stop}
 use Rattle.dedup.proofs.table.place_of.Goals as goal
 

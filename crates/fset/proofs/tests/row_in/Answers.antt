@@ -2,12 +2,13 @@ use Rattle.std.proofs.Common.{◌≡◌, ℕ, ◌+◌, ◌<◌, ◌≤◌, ◌^�
 use Rattle.step_core.specs.declared.format.TheConstants.{FIRST_BUCKET}
 use Rattle.step_core.specs.declared.published.Published.TheVariants.{Generation}
 use Rattle.step_core.specs.declared.views.PassView.{PassView}
-use Rattle.cells.specs.Known.{KnowsBucket, IsSound}
+use Rattle.cells.specs.Known.{KnowsBucket}
+use Rattle.cells.specs.Sound.{IsSound}
 use Rattle.cells.specs.Steps.{LoadsHead, LoadsSealed}
-use Rattle.cells.proofs.LawKnown.{knows_more}
-use Rattle.cells.proofs.LawLoads.{load_head_knows, load_sealed_known}
-use Rattle.cells.proofs.LawSealed.{knows_exponent, exponent_word, knows_bucket}
-use Rattle.cells.proofs.LawWithin.{generation_within}
+use Rattle.cells.proofs.laws.Known.{knows_more}
+use Rattle.cells.proofs.laws.HeadLoads.{load_head_knows, load_sealed_known}
+use Rattle.cells.proofs.laws.Sealed.{knows_exponent, exponent_word, knows_bucket}
+use Rattle.cells.proofs.laws.Within.{generation_within}
 use Rattle.fset.proofs.tests.row_in.Goals as goal
 
 -- the head with this exponent lies in the arena, and its buckets may be loaded

@@ -1,5 +1,5 @@
 use Rattle.std.proofs.Common.{arith}
-use Rattle.step_core.proofs.LawExponents.{exponent_for-only}
+use Rattle.step_core.proofs.tables.OneExponent.{exponent_for-only}
 use Rattle.step_core.proofs.exponents.exponent_for.Goals as goal
 
 pub returns-then-count-bucket_count-clause-exponent : goal.returns-then-count-bucket_count-clause-exponent

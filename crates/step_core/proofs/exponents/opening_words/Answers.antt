@@ -1,5 +1,5 @@
 use Rattle.std.proofs.Common.{length, arith}
-use Rattle.step_core.proofs.LawExponents.{exponent_for-bound}
+use Rattle.step_core.proofs.tables.OneExponent.{exponent_for-bound}
 use Rattle.step_core.proofs.exponents.opening_words.Goals as goal
 
 pub returns-clause-bound : goal.returns-clause-bound

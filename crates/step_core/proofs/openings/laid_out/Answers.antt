@@ -1,7 +1,7 @@
 use Rattle.std.proofs.Common.{ℕ, ◌-◌, ◌^◌, List, [], ◌∷◌, ◌++◌, length, take, replicate, ap, ◌∙◌}
 use Rattle.step_core.specs.Format.{base_of}
 use Rattle.step_core.specs.Openings.{generation_words, rows_of}
-use Rattle.step_core.proofs.LawOpening.{IsWritten, opening_of-written}
+use Rattle.step_core.proofs.tables.Written.{IsWritten, opening_of-written}
 use Rattle.step_core.proofs.openings.laid_out.Goals as goal
 
 pub returns : goal.returns

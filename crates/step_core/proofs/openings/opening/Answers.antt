@@ -3,10 +3,10 @@ use Rattle.step_core.specs.Content.{HasMembers}
 use Rattle.step_core.specs.Fits.{BeginsRound, IsWellFormed}
 use Rattle.step_core.specs.Openings.{opening_facts, opening_of}
 use Rattle.step_core.specs.Plain.{HasPlainRows}
-use Rattle.step_core.proofs.LawBegins.{opening_begins}
-use Rattle.step_core.proofs.LawOpened.{IfOk-only, opening_is_table, opening_members}
-use Rattle.step_core.proofs.LawTableFits.{table_well_formed}
-use Rattle.step_core.proofs.LawTableMembers.{table_plain}
+use Rattle.step_core.proofs.tables.Begins.{opening_begins}
+use Rattle.step_core.proofs.tables.Opened.{IfOk-only, opening_is_table, opening_members}
+use Rattle.step_core.proofs.tables.Fitting.{table_well_formed}
+use Rattle.step_core.proofs.tables.Members.{table_plain}
 use Rattle.step_core.proofs.openings.opening.Goals as goal
 
 pub returns-clause-well_formed : goal.returns-clause-well_formed

@@ -1,5 +1,5 @@
 use Rattle.std.proofs.Common.{length, ◌∙◌, arith}
-use Rattle.step_core.proofs.LawRows.{generation_front-more, row_start-place}
+use Rattle.step_core.proofs.tables.Rows.{generation_front-more, row_start-place}
 use Rattle.step_core.proofs.openings.push_generation.Goals as goal
 
 pub loop-bucket-preserved : goal.loop-bucket-preserved

@@ -1,6 +1,6 @@
 use Rattle.std.proofs.Common.{◌≡◌, ◌++◌, length}
 use Rattle.step_core.specs.Buckets.{IsBucketStart}
-use Rattle.step_core.proofs.LawRows.{generation_front}
+use Rattle.step_core.proofs.tables.Rows.{generation_front}
 use Rattle.step_core.proofs.openings.push_generation.Given as goal
 
 -- the words of the buckets before are written

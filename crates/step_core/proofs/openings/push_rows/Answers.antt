@@ -1,6 +1,6 @@
 use Rattle.std.proofs.Common.{sym, ◌∙◌}
-use Rattle.step_core.proofs.LawBuckets.{class_keys-part}
-use Rattle.step_core.proofs.LawRows.{rows_of-written, rows_of-none, bucket_start-first}
+use Rattle.step_core.proofs.tables.Buckets.{class_keys-part}
+use Rattle.step_core.proofs.tables.Rows.{rows_of-written, rows_of-none, bucket_start-first}
 use Rattle.step_core.proofs.openings.push_rows.Goals as goal
 
 pub loop-bucket-init : goal.loop-bucket-init

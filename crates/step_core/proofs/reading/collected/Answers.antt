@@ -1,5 +1,5 @@
 use Rattle.std.proofs.Common.{◌++◌, sym, ◌∙◌}
-use Rattle.step_core.proofs.LawLive.{keys_before-none, keys_before-more}
+use Rattle.step_core.proofs.tables.Live.{keys_before-none, keys_before-more}
 use Rattle.step_core.proofs.reading.collected.Goals as goal
 
 pub loop-bucket-init : goal.loop-bucket-init

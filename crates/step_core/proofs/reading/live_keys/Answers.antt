@@ -1,6 +1,6 @@
 use Rattle.std.proofs.Common.{subst, List, ℕ}
 use Rattle.std.specs.List.Sorted.{IsPermutation}
-use Rattle.step_core.proofs.LawLive.{collected_members, collected_rising}
+use Rattle.step_core.proofs.tables.Live.{collected_members, collected_rising}
 use Rattle.step_core.proofs.reading.live_keys.Goals as goal
 
 pub returns-clause-members : goal.returns-clause-members

@@ -1,11 +1,11 @@
 use Rattle.std.proofs.Common.{◌≡◌, ℕ, ◌+◌, ◌*◌, [], ◌∷◌, slice_index, ap, ◌∙◌, arith}
-use Rattle.step_core.specs.Drawn.{IsReady}
+use Rattle.step_core.specs.Drawn.{MayReplace}
 use Rattle.step_core.specs.Format.{head_of, next_of}
 use Rattle.step_core.specs.Steps.{after_step}
 use Rattle.step_core.specs.declared.format.TheConstants.{FIRST_BUCKET}
 use Rattle.step_core.specs.declared.kinds.Step.TheVariants.{LoadBucket, Draw}
-use Rattle.step_core.proofs.LawDrawn.{drawn, written, swapped}
-use Rattle.step_core.proofs.LawSteps.{after_step-load_head, after_step-load_bucket}
+use Rattle.step_core.proofs.seen.Drawn.{drawn, written, swapped}
+use Rattle.step_core.proofs.seen.Steps.{after_step-load_head, after_step-load_bucket}
 use Rattle.step_core.proofs.tests.put_only_key.Goals as goal
 
 pub returns : goal.returns
@@ -22,7 +22,7 @@ returns c =
     let op = written count c.step-2.new.words (c.step-row.result + 1) 0 (omega arith) (omega arith) c.step-2.ensures.words in
     let ans = written op c.step-3.new.words (c.step-row.result + 2) 0 (omega arith) (omega arith) c.step-3.ensures.words in
     let built = written ans c.step-4.new.words (c.step-row.result + 3) c.args.key (omega arith) (omega arith) c.step-4.ensures.words in
-    let ready : IsReady words c.step-4.new.words (c.args.key ∷ []) = record {
+    let ready : MayReplace words c.step-4.new.words (c.args.key ∷ []) = record {
       well_formed = c.requires.well_formed;
       single = c.requires.single;
       built = built;

@@ -2,7 +2,7 @@ use Rattle.std.proofs.Common.{[], List, ℕ, length, sym, ap, ◌∙◌, subst}
 use Rattle.atomic_table.specs.Table.{opening}
 use Rattle.cells.specs.Seats.{IsRuled, facts_of, first_seat}
 use Rattle.cells.specs.declared.rule.Setup.{Setup}
-use Rattle.cells.proofs.LawOpens.{begins_ruled, begins_round, setup_facts}
+use Rattle.cells.proofs.laws.Opens.{begins_ruled, begins_round, setup_facts}
 use Rattle.cells.proofs.round.Round.from_words.Goals as goal
 
 -- the rule holds of the table that the round begins with

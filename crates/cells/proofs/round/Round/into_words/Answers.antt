@@ -6,14 +6,14 @@ use Rattle.std.specs.List.Sorted.{IsPermutation}
 use Rattle.std.specs.Mem.Slots.{slots_items}
 use Rattle.step_core.specs.declared.views.RoundFacts.{RoundFacts}
 use Rattle.cells.specs.Ends.{EndsRound}
-use Rattle.cells.specs.Fronts.{front_of}
+use Rattle.cells.specs.Modeled.{front_of}
 use Rattle.cells.specs.Past.{longest_front}
 use Rattle.cells.specs.Seats.{facts_of}
 use Rattle.cells.specs.Tokens.{RoundValue}
 use Rattle.cells.specs.declared.rule.SeatView.{SeatView}
-use Rattle.cells.proofs.KeepsSeats.{front_keeps}
-use Rattle.cells.proofs.LawCutting.{round_word, round_small}
-use Rattle.cells.proofs.LawEnds.{some_passes, ends_round, numbers_of}
+use Rattle.cells.proofs.keeps.Seats.{front_keeps}
+use Rattle.cells.proofs.laws.Cutting.{round_word, round_small}
+use Rattle.cells.proofs.laws.Ends.{some_passes, ends_round, numbers_of}
 use Rattle.cells.proofs.round.Round.into_words.Goals as goal
 
 -- a round has a pass
@@ -42,7 +42,7 @@ returns-clause-answer c =
     let once = subst (λ (f : RoundFacts). IsPermutation (numbers_of passes) (range_with_len 0 f.seats)) (sym same)
     c.requires.passes.once in
     let ends = ends_round facts passes seat.id seat.me.0 (slots_items closed.words) (slots_items closed.slots)
-    (ap (λ (m : Me ℕ SeatView). m.0) (split.2 ∙ gathered)) once c.close_with-closed.ensures.values.2 in
+    (ap (λ (m : Me ℕ SeatView). m.0) (split.2 ∙ gathered)) once c.gathered-seat.ensures.serials c.close_with-closed.ensures.values.2 in
     let words = c.from_vec.ensures ∙ c.copied-words.ensures in
     let front = ap front_of c.into_badge.ensures.2 ∙ ap (λ (m : Me ℕ SeatView). m.0.front) split.4
     ∙ ap (λ (m : Me ℕ SeatView). longest_front m.0.rights) gathered in

@@ -6,9 +6,9 @@ use Rattle.step_core.specs.declared.views.RoundFacts.{RoundFacts}
 use Rattle.cells.specs.Known.{KnowsBucket}
 use Rattle.cells.specs.Moves.{load_bucket_tells}
 use Rattle.cells.specs.Seats.{facts_of, pass_of}
-use Rattle.cells.proofs.LawSeats.{pass_allows}
-use Rattle.cells.proofs.LawWithin.{bucket_within}
-use Rattle.cells.proofs.KeepsLoadBucket.{load_bucket_moves}
+use Rattle.cells.proofs.laws.Seats.{pass_allows}
+use Rattle.cells.proofs.laws.Within.{bucket_within}
+use Rattle.cells.proofs.keeps.LoadBucket.{load_bucket_moves}
 use Rattle.cells.proofs.round.Round.load_bucket.Goals as goal
 
 -- whatever the round is, the pass may load a bucket word of a generation that it knows

@@ -5,8 +5,8 @@ use Rattle.step_core.specs.declared.format.TheConstants.{HEAD}
 use Rattle.step_core.specs.declared.kinds.Step.TheVariants.{LoadHead}
 use Rattle.cells.specs.Moves.{load_head_tells}
 use Rattle.cells.specs.Seats.{facts_of, pass_of}
-use Rattle.cells.proofs.LawSeats.{pass_allows}
-use Rattle.cells.proofs.KeepsLoadHead.{load_head_moves}
+use Rattle.cells.proofs.laws.Seats.{pass_allows}
+use Rattle.cells.proofs.keeps.LoadHead.{load_head_moves}
 use Rattle.cells.proofs.round.Round.load_head.Goals as goal
 
 -- whatever the round is, the pass may load the head

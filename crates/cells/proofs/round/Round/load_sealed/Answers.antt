@@ -6,9 +6,9 @@ use Rattle.step_core.specs.declared.views.RoundFacts.{RoundFacts}
 use Rattle.cells.specs.Known.{KnowsSealed}
 use Rattle.cells.specs.Moves.{load_sealed_tells}
 use Rattle.cells.specs.Seats.{facts_of, pass_of}
-use Rattle.cells.proofs.LawSeats.{pass_allows}
-use Rattle.cells.proofs.LawWithin.{sealed_within}
-use Rattle.cells.proofs.KeepsLoadSealed.{load_sealed_moves}
+use Rattle.cells.proofs.laws.Seats.{pass_allows}
+use Rattle.cells.proofs.laws.Within.{sealed_within}
+use Rattle.cells.proofs.keeps.LoadSealed.{load_sealed_moves}
 use Rattle.cells.proofs.round.Round.load_sealed.Goals as goal
 
 -- whatever the round is, the pass may load a sealed word that it knows

@@ -6,9 +6,9 @@ use Rattle.cells.specs.Seats.{facts_of, pass_of}
 use Rattle.cells.specs.declared.rule.SeatView.{SeatView}
 use Rattle.cells.specs.Steps.{Writes, view_after_write}
 use Rattle.cells.specs.Tokens.{BlockValue, PassValue}
-use Rattle.cells.proofs.LawWithin.{hand_within}
-use Rattle.cells.proofs.LawWrites.{writes_one}
-use Rattle.cells.proofs.KeepsWrite.{write_allows}
+use Rattle.cells.proofs.laws.Within.{hand_within}
+use Rattle.cells.proofs.laws.WritesAddUp.{writes_one}
+use Rattle.cells.proofs.keeps.Write.{write_allows}
 use Rattle.cells.proofs.round.Round.write.Goals as goal
 
 -- a word of a block in hand lies in the arena

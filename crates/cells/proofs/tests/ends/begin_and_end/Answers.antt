@@ -1,4 +1,4 @@
-use Rattle.cells.proofs.LawFresh.{fresh_all-is}
+use Rattle.cells.proofs.laws.Fresh.{fresh_all-is}
 use Rattle.cells.proofs.tests.ends.begin_and_end.Goals as goal
 
 -- the passes are those that the round began with

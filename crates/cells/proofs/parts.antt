@@ -1,0 +1,6 @@
+pub mod PutState
+pub mod PutView
+pub mod StillPaid
+pub mod SameTurns
+pub mod NoWord
+pub mod Seated

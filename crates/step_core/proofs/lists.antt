@@ -1,0 +1,7 @@
+pub mod Above
+pub mod Calls
+pub mod Histories
+pub mod Change
+pub mod Keys
+pub mod Places
+pub mod Rising

@@ -1,0 +1,14 @@
+pub mod Begins
+pub mod Buckets
+pub mod OneExponent
+pub mod Live
+pub mod Opened
+pub mod Written
+pub mod Owned
+pub mod Plain
+pub mod Blocks
+pub mod Fitting
+pub mod Members
+pub mod Rows
+pub mod OneRow
+pub mod Held

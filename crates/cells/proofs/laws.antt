@@ -9,6 +9,7 @@ pub mod Sealed
 pub mod Within
 pub mod HeadLoads
 pub mod BucketLoads
+pub mod BucketKeys
 pub mod LoneBucket
 pub mod AfterDraws
 pub mod WritesAddUp

@@ -12,7 +12,7 @@ use Rattle.cells.specs.Lone.{KnowsAlone}
 use Rattle.cells.specs.Past.{HoldsHistory}
 use Rattle.cells.specs.Paid.{ArePaid}
 use Rattle.cells.specs.SoFar.{HasOneGeneration}
-use Rattle.cells.specs.Sound.{AreSmall}
+use Rattle.cells.specs.Sound.{AreFacts}
 
 -- the bucket isn't nil
 abbrev pub IsFilled : (ℕ → ℕ → ℕ) → FilledBucket → Type 0
@@ -25,7 +25,7 @@ KnowsFilled cells pass view = All (IsFilled cells) view.filled
 -- the words, what they stand for, and the history
 pub record HoldsRound (facts : RoundFacts) (words : List ℕ) (state : RoundState)
     (history : List Entry) : Type 0 where
-  pub small : AreSmall facts
+  pub small : AreFacts facts
   -- words, published blocks and views fit
   pub fits : Fits facts words state
   pub past : HoldsHistory facts state.blocks state.cells state.views history

@@ -9,7 +9,7 @@ use Rattle.cells.specs.declared.block.Block.TheInside as block
 use Rattle.cells.specs.declared.front.Front.TheInside as front
 use Rattle.cells.specs.declared.notes.Note.TheInside as note
 use Rattle.cells.specs.declared.rule.SeatView.{SeatView}
-use Rattle.cells.specs.Sound.{IsSound, AreSmall}
+use Rattle.cells.specs.Sound.{IsSound, AreFacts}
 use Rattle.cells.specs.Seats.{facts_of, note_seat, pass_of, pass_seat}
 use Rattle.cells.specs.Tokens.{RoundValue, PassValue, BlockValue, NoteValue, HasBegunCalls}
 
@@ -28,7 +28,7 @@ pub record IsRound (inside : round.Inside) : Type 0 where
   pub slots : inside.table.shared.table_id.slots ≡ 0
   pub cap : (facts_of inside.table.shared.key).cap ≡ inside.layout.cap
   pub seats : (facts_of inside.table.shared.key).seats ≡ inside.layout.seats
-  pub small : AreSmall (facts_of inside.table.shared.key)
+  pub small : AreFacts (facts_of inside.table.shared.key)
   pub plan : IsPlan inside.plan
   pub planned : inside.plan.seats ≡ inside.layout.seats
 

@@ -1,5 +1,6 @@
 -- What holds of any view, taken alone.
 use Rattle.std.specs.Prelude.{◌≡◌, ℕ, ◌+◌, ◌<◌, ◌≤◌, length}
+use Rattle.std.specs.List.Sorted.{IsStrictlyIncreasing}
 use Rattle.set_model.specs.History.{IsLegal}
 use Rattle.set_model.specs.Keys.{is_in}
 use Rattle.arena.specs.Hands.{words_at}
@@ -31,16 +32,18 @@ pub record IsInBlock (view : PassView) (at place : ℕ) : Type 0 where
   pub begun : at ≤ place
   pub within : place < at + block_len block
 
--- a round has 1 to 64 passes, and at most 2^28 words, the fixed ones among them
-pub record AreSmall (facts : RoundFacts) : Type 0 where
+-- a round has 1 to 64 passes, at most 2^28 words, the fixed ones among them, and opening keys that
+-- rise
+pub record AreFacts (facts : RoundFacts) : Type 0 where
   pub some_pass : 1 ≤ facts.seats
   pub few_passes : facts.seats ≤ max_passes
   pub few_words : facts.cap ≤ max_words
   pub fixed_words : base_of facts.seats ≤ facts.cap
+  pub rising : IsStrictlyIncreasing facts.keys
 
 -- the view is sound: what it says of itself, of known blocks and of blocks in hand is so
 pub record IsSound (view : PassView) : Type 0 where
-  pub facts : AreSmall view.facts
+  pub facts : AreFacts view.facts
   pub seat : view.number < view.facts.seats
   -- its front is a legal history
   pub legal : IsLegal (is_in view.facts.keys) view.front

@@ -12,6 +12,7 @@ use step_core::{Layout, Words, opening, opening_words};
 
 mod draws;
 mod ends;
+mod lone;
 mod notes;
 
 // A round that begins with these keys, and has so many words of room.

@@ -203,27 +203,3 @@ module _ (place : ℕ) (old : PassView) (word : ℕ) (new : PassView) (loads : L
                 ∙ ap (λ (load : BucketLoad). Some (noted load turn)) bucket_load-known,
             open_lost_is ∙ ap (λ (b : Bool). cond b (old.lost + 1) old.lost) keeps,
           )
-
-  module _ (sound : IsSound new) (some : ¬ IsNil word) where
-    -- The lookup finds that row.
-    pub load_bucket_row : row_at new.known (row_address word) ≡ loads.row
-    load_bucket_row = row_at-known new (row_address word) loads.row sound (load_bucket_knows some)
-
-    -- What the lookup finds there is known.
-    pub load_bucket_row_known : KnowsRow new (row_address word) (row_at new.known (row_address word))
-    load_bucket_row_known =
-        subst (KnowsRow new (row_address word)) (sym load_bucket_row) (load_bucket_knows some)
-
-    -- The keys that are known there rise.
-    pub load_bucket_rises : IsStrictlyIncreasing (keys_at new (row_address word))
-    load_bucket_rises = (sound.rows (row_address word) (row_at new.known (row_address word)) load_bucket_row_known).rising
-
-    -- They are of the bucket's class.
-    pub load_bucket_class : (at bucket : ℕ) (generation : GenerationBlock) → IsBucketWord old place at bucket generation
-        → All (InClass generation.exponent bucket) (keys_at new (row_address word))
-    load_bucket_class at bucket generation is_word =
-        let home = loads.home at bucket generation is_word some in
-        subst (λ (row : RowBlock). All (InClass generation.exponent bucket) row.keys) (sym load_bucket_row)
-        (subst (λ (e : ℕ). All (InClass e bucket) loads.row.keys) home.0
-        (subst (λ (b : ℕ). All (InClass loads.row.exponent b) loads.row.keys) home.1
-        (sound.rows (row_address word) loads.row (load_bucket_knows some)).class))

@@ -9,7 +9,7 @@ use Rattle.step_core.specs.States.{fresh_view}
 use Rattle.step_core.specs.declared.views.PassView.{PassView}
 use Rattle.step_core.specs.declared.views.RoundFacts.{RoundFacts}
 use Rattle.cells.specs.Begins.{rest_seat, SpeaksForAll}
-use Rattle.cells.specs.Sound.{AreSmall, IsSound}
+use Rattle.cells.specs.Sound.{AreFacts, IsSound}
 use Rattle.cells.specs.Modeled.{IsRound, IsWhole, round_value}
 use Rattle.cells.specs.Seats.{IsRuled, pass_seat, pass_of, other_passes}
 use Rattle.cells.specs.Tokens.{RoundValue, PassValue, fresh_pass, fresh_passes}
@@ -98,7 +98,7 @@ cut_all round number table me passes all cut =
     cut.passes_are ∙ ap (λ (n : ℕ). map (fresh_pass round) (range_with_len 0 n)) all
 
 -- a fresh view is sound
-pub fresh_sound : (facts : RoundFacts) (number : ℕ) → AreSmall facts → number < facts.seats → IsSound (fresh_view facts number)
+pub fresh_sound : (facts : RoundFacts) (number : ℕ) → AreFacts facts → number < facts.seats → IsSound (fresh_view facts number)
 fresh_sound facts number small lt = record {
   facts = small;
   seat = lt;
@@ -120,7 +120,7 @@ fresh_sound facts number small lt = record {
 }
 
 -- and so is the pass that has it
-pub fresh_whole : (facts : RoundFacts) (number : ℕ) (inside : pass.Inside) → AreSmall facts → number < facts.seats
+pub fresh_whole : (facts : RoundFacts) (number : ℕ) (inside : pass.Inside) → AreFacts facts → number < facts.seats
     → inside.seat.me ≡ (pass_seat (fresh_view facts number), []) → inside.number ≡ number → inside.spent ≡ None
     → IsWhole inside
 fresh_whole facts number inside small lt me is_number unspent =
@@ -146,5 +146,5 @@ round_word inside invariant = omega (arith, invariant.words, invariant.cap, inva
 
 -- and is small
 pub round_small : (inside : round.Inside) (value : RoundValue) → round_value inside ≡ value → IsRound inside
-    → AreSmall value.facts
-round_small inside value is invariant = subst AreSmall (ap (λ (v : RoundValue). v.facts) is) invariant.small
+    → AreFacts value.facts
+round_small inside value is invariant = subst AreFacts (ap (λ (v : RoundValue). v.facts) is) invariant.small

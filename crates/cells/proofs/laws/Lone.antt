@@ -111,3 +111,18 @@ pub is_untouched-same : (old new : PassView) → head_at new ≡ head_at old →
     → new.filled ≡ old.filled → (bucket : ℕ) → is_untouched new bucket ≡ is_untouched old bucket
 is_untouched-same old new head generation filled bucket =
     λ i. not (nat_eq (generation i).predecessor 0) && not (is_among (filled i) (head i) bucket)
+
+-- the ledger's next place is behind all that the pass drew,
+pub ledger_of-next : (view : PassView) → (ledger_of view).next ≡ view.facts.opened + view.drawn
+unfolding ledger_of
+ledger_of-next view = refl
+
+-- its keys are the set at the front,
+pub ledger_of-keys : (view : PassView) → (ledger_of view).keys ≡ keys_after view.facts.keys view.front
+unfolding ledger_of
+ledger_of-keys view = refl
+
+-- and its exponent is the head's
+pub ledger_of-exponent : (view : PassView) → (ledger_of view).exponent ≡ (head_generation view).exponent
+unfolding ledger_of
+ledger_of-exponent view = refl

@@ -30,7 +30,7 @@ use Rattle.cells.specs.Modeled.{IsRound}
 use Rattle.cells.specs.Paid.{wins_of, IsPaid}
 use Rattle.cells.specs.Past.{HoldsHistory, BeginsHistory, OwnsEntries, IsOfPasses, UsesSerials}
 use Rattle.cells.specs.SoFar.{HasNoMark, HasOneGeneration}
-use Rattle.cells.specs.Sound.{AreSmall}
+use Rattle.cells.specs.Sound.{AreFacts}
 use Rattle.cells.specs.Seats.{IsRuled, IsSeat, AreSeated, SpeaksFor, facts_of, first_seat}
 use Rattle.cells.specs.declared.round.Round.TheInside as round
 use Rattle.cells.specs.declared.rule.SeatView.{SeatView}
@@ -90,7 +90,7 @@ module _ (facts : RoundFacts) where
   fresh_seated = record { owner = λ _. 0; each = fresh_seat }
 
 module _ (seats cap : ℕ) (keys : List ℕ) (rising : IsStrictlyIncreasing keys) (few : length keys ≤ 2 ^ 24)
-    (fits : opening_words seats keys ≤ cap) (small : AreSmall (opening_facts seats cap keys)) where
+    (fits : opening_words seats keys ≤ cap) (small : AreFacts (opening_facts seats cap keys)) where
   -- what never changes in the round
   abbrev facts : RoundFacts
   facts = opening_facts seats cap keys
@@ -170,16 +170,17 @@ module _ (seats cap : ℕ) (keys : List ℕ) (rising : IsStrictlyIncreasing keys
     seated = fresh_seated facts;
   }
 
--- a round that may begin is a small one
-pub begins_small : {words : List ℕ} {layout : Layout} {plan : Plan} → MayBegin words layout plan
-    → (keys : List ℕ) → AreSmall (opening_facts layout.seats layout.cap keys)
-begins_small {words} {layout} {plan} begins keys =
+-- a round that may begin has such facts
+pub begins_facts : {words : List ℕ} {layout : Layout} {plan : Plan} (begins : MayBegin words layout plan)
+    → AreFacts (opening_facts layout.seats layout.cap begins.keys)
+begins_facts {words} {layout} {plan} begins =
     let planned = begins.planned in
     record {
       some_pass = omega (arith, planned.some_pass, begins.seats);
       few_passes = omega (arith, planned.few_passes, begins.seats);
       fixed_words = omega (arith, begins.opening.room);
       few_words = begins.few_words;
+      rising = begins.opening.rising;
     }
 
 -- the facts that the table of a round is told are the opening's
@@ -198,7 +199,7 @@ begins_ruled {words} {layout} {plan} begins setup seats told =
     let Ruled : RoundFacts × List ℕ → Type 0 =
     λ z. IsRuled z.0 (opening z.1 [] (record { front = []; rights = fresh_views z.0 })) in
     subst Ruled (λ i. (sym (setup_facts setup seats told begins.keys is) i, sym is.laid_out i))
-    (opening_ruled layout.seats layout.cap begins.keys is.rising is.few (omega (arith, is.room)) (begins_small begins begins.keys))
+    (opening_ruled layout.seats layout.cap begins.keys is.rising is.few (omega (arith, is.room)) (begins_facts begins))
 
 -- and the round is one
 pub begins_round : {words : List ℕ} (inside : round.Inside) (setup : Setup) → MayBegin words inside.layout inside.plan
@@ -214,7 +215,7 @@ begins_round {words} inside setup begins seats told key count slots =
       slots = slots;
       cap = ap (λ (f : RoundFacts). f.cap) facts;
       seats = ap (λ (f : RoundFacts). f.seats) facts;
-      small = subst AreSmall (sym facts) (begins_small begins begins.keys);
+      small = subst AreFacts (sym facts) (begins_facts begins);
       plan = begins.planned;
       planned = sym begins.seats;
     }

@@ -1,12 +1,12 @@
 -- What one pass may do in a round, its seat may do at the round's table.
-use Rattle.std.proofs.Common.{◌≡◌, ◌≢◌, ℕ, ◌^◌, ◌<◌, ⊎_elim, List, [], slice_index, slice_set, refl, sym, ap, ◌∙◌, subst}
+use Rattle.std.proofs.Common.{◌≡◌, ◌≢◌, ℕ, ◌^◌, ◌<◌, ⊎_elim, List, [], slice_index, slice_set, refl, sym, ap, ◌∙◌, subst, arith}
 use Rattle.std.proofs.lemmas.List.Elements.{All-cons, All-head, All-nil, All-weaker}
 use mathlib.Core.List.{IsPrefix}
-use mathlib.Core.Option.{some}
+use mathlib.Core.Option.{none, some}
 use lib.ListN.{get_elem?}
 use base.Growing.{prefix_trans}
 use Rattle.set_model.specs.declared.entry.Entry.{Entry}
-use Rattle.atomic_table.specs.Table.{State, Me, Allows, keeps}
+use Rattle.atomic_table.specs.Table.{State, Me, Allows, keeps, step}
 use Rattle.atomic_table.specs.Table.{Step as TableStep}
 use Rattle.atomic_table.proofs.Lists.{at_set, set_here, set_else}
 use Rattle.step_core.specs.States.{RoundState}
@@ -18,7 +18,9 @@ use Rattle.cells.specs.declared.rule.SeatView.{SeatView}
 use Rattle.cells.specs.Invariant.{HoldsRound}
 use Rattle.cells.specs.Sound.{IsSound}
 use Rattle.cells.specs.Moves.{Moved, Moves, Tells}
-use Rattle.cells.specs.Seats.{pass_of, pass_seat, SpeaksFor, IsSeat, AreSeated, IsRuled}
+use Rattle.cells.specs.declared.round.Round.TheInside as round
+use Rattle.cells.specs.Modeled.{IsRound}
+use Rattle.cells.specs.Seats.{facts_of, pass_of, pass_seat, SpeaksFor, IsSeat, AreSeated, IsRuled}
 use Rattle.cells.proofs.laws.Sound.{sound_view}
 use Rattle.cells.proofs.parts.PutState.{there_inside}
 
@@ -141,4 +143,24 @@ pass_allows facts slots id me place change kind told step one is_place is_change
         sound = stays_sound facts id table ruled old is_seat told_here (slice_set table.words place (change found)) moved;
         tells = moved.tells;
       },
+    )
+
+-- what the pass may load in the round, its seat may load at the table of the round's fields
+pub load_allows : (inside : round.Inside) → IsRound inside → (id : ℕ) (me : Me ℕ SeatView) (place : ℕ) (kind : Step)
+    (told : PassView → TableStep ℕ → ℕ → PassView → Type 0)
+    → me ≡ (pass_seat (pass_of me.0), []) → (pass_of me.0).facts ≡ facts_of inside.table.shared.key → place < (pass_of me.0).facts.cap
+    → place ≡ place_of kind → ((word : ℕ) → word ≡ becomes kind word)
+    → Moves (facts_of inside.table.shared.key) (pass_of me.0) kind
+    (λ word view. told (pass_of me.0) (step inside.table.shared.table_id.slots place 0 0 none) word view)
+    → (place < inside.table.shared.table_id.words)
+    × Allows (IsRuled (facts_of inside.table.shared.key)) inside.table.shared.table_id.slots id me place (λ word. word)
+    (Tells told (step inside.table.shared.table_id.slots place 0 0 none) me)
+load_allows inside is id me place kind told one same within is_place stays moves =
+    let table = inside.table.shared in
+    let made : TableStep ℕ = step table.table_id.slots place 0 0 none in
+    let end = ap (λ (facts : RoundFacts). facts.cap) same ∙ is.cap in
+    let words = is.words in (
+      omega arith,
+      pass_allows (facts_of table.key) table.table_id.slots id me place (λ word. word) kind told made one is_place
+          (λ words state history round. stays (slice_index words place)) moves,
     )

@@ -22,7 +22,7 @@ use Rattle.step_core.specs.declared.views.RoundFacts.{RoundFacts}
 use Rattle.cells.specs.Invariant.{HoldsRound}
 use Rattle.cells.specs.Known.{known_block, KnowsBlock, KnowsRow}
 use Rattle.cells.specs.SoFar.{KnowsOneGeneration}
-use Rattle.cells.specs.Sound.{IsInArena, IsInHand, IsInBlock, AreSmall, IsSound}
+use Rattle.cells.specs.Sound.{IsInArena, IsInHand, IsInBlock, AreFacts, IsSound}
 use Rattle.cells.proofs.laws.LoneRound.{lone_lost}
 use Rattle.cells.proofs.parts.PutState.{there_inside}
 
@@ -53,8 +53,8 @@ module _ {facts : RoundFacts} {words : List ℕ} {state : RoundState} {history :
   hand_word at place word = record { view = view; is_view = is_view; begun = word.begun; within = word.within }
 
   -- which is small
-  is_small : AreSmall view.facts
-  is_small = subst (λ (facts : RoundFacts). AreSmall facts) (sym same_round) round.small
+  is_small : AreFacts view.facts
+  is_small = subst (λ (facts : RoundFacts). AreFacts facts) (sym same_round) round.small
 
   -- its number is below that of the passes
   has_seat : view.number < view.facts.seats

@@ -29,6 +29,10 @@ module _ (view : PassView) (sound : IsSound view) where
   pub cap_small : view.facts.cap ≤ 2 ^ 28
   cap_small = omega (arith, sound.facts.few_words)
 
+  -- The first of the fixed words lies before the end.
+  pub fixed_within : 0 < view.facts.cap
+  fixed_within = omega (arith, sound.facts.fixed_words)
+
   -- A known block lies in the arena.
   pub block_within : (at : ℕ) (block : Published) → KnowsBlock view at block → IsRoom view at (block_len block)
   block_within at block known =

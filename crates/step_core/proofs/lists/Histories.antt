@@ -1,10 +1,12 @@
 -- A rising list of keys under a history: it rises, has the members that the history leaves, and so has the part of one bucket.
-use Rattle.std.proofs.Common.{◌≡◌, ℕ, Bool, true, false, cond, ◌||◌, nat_eq, List, [], ◌∷◌, ◌++◌, refl, sym, ap, ◌∙◌, inl, inr}
+use Rattle.std.proofs.Common.{◌≡◌, ℕ, Bool, true, false, cond, ◌||◌, nat_eq, List, [], ◌∷◌, ◌++◌, refl, sym, ap, ◌∙◌, subst, All, inl, inr}
+use native.Mathlib.Decide.{ℕ_discrete}
 use Rattle.std.specs.Cmp.{nat_cmp_total}
 use Rattle.std.specs.FinSet as set
 use Rattle.std.specs.List.Sorted.{IsStrictlyIncreasing}
 use Rattle.std.proofs.lemmas.Bool.{cases_Bool}
 use Rattle.std.proofs.lemmas.Bool.Decides.{Decides-eqb}
+use Rattle.std.proofs.lemmas.List.Elements.{All-head, All-tail}
 use Rattle.std.proofs.lemmas.List.Kept.{IsStrictlyIncreasing-filter}
 use Rattle.set_model.specs.Call.{members_after_call}
 use Rattle.set_model.specs.History.{members_after}
@@ -112,3 +114,32 @@ same_members_are_one one other rises too same =
     rising_list_is_one one other rises too
     (set.same_set nat_cmp_total set.nat_cmp-IsAntisymmetric (keys_set one) (keys_set other) (λ key.
     set.contains-from_list_nat one key ∙ same key ∙ sym (set.contains-from_list_nat other key)))
+
+-- what a list has is a key of the class where all its keys are
+class_has : (exponent bucket : ℕ) (list : List ℕ) (key : ℕ) → All (InClass exponent bucket) list → is_in list key ≡ true
+    → InClass exponent bucket key
+class_has exponent bucket [] key all here = absurd (cc)
+class_has exponent bucket (first ∷ list) key all here = elim (cases_Bool (nat_eq first key)) [
+  | inl same ↦ subst (InClass exponent bucket) ((Decides-eqb first key).0 same) (All-head (InClass exponent bucket) first list all)
+  | inr other ↦ class_has exponent bucket list key (All-tail (InClass exponent bucket) first list all)
+      (sym (ap (λ (b : Bool). b || is_in list key) other) ∙ here)
+]
+
+-- so it lacks each key of another class
+class_lacks : (exponent bucket : ℕ) (list : List ℕ) (key : ℕ) → All (InClass exponent bucket) list → (InClass exponent bucket key → ⊥)
+    → is_in list key ≡ false
+class_lacks exponent bucket list key all other = elim (cases_Bool (is_in list key)) [
+  | inl here ↦ absurd (other (class_has exponent bucket list key all here))
+  | inr absent ↦ absent
+]
+
+-- a rising list of a class that has of it what another rising list has is that list's part of the class
+pub class_only : (exponent bucket : ℕ) (list keys : List ℕ) → IsStrictlyIncreasing list → IsStrictlyIncreasing keys
+    → All (InClass exponent bucket) list → ((key : ℕ) → InClass exponent bucket key → is_in list key ≡ is_in keys key)
+    → list ≡ class_keys exponent bucket keys
+class_only exponent bucket list keys rises rising all same =
+    same_members_are_one list (class_keys exponent bucket keys) rises (class_keys-rising exponent bucket keys rising) (λ key.
+    elim (ℕ_discrete (key_bucket exponent key) bucket) [
+      | yes class ↦ same key class ∙ sym (class_keys-in exponent bucket key keys class)
+      | no other ↦ class_lacks exponent bucket list key all other ∙ sym (class_keys-out exponent bucket key keys other)
+    ])

@@ -45,7 +45,7 @@ module _ {B : Type 0} (sealed_words : B → List ℕ) (open_words : B → ℕ) w
     pub cell_part : IsCells words owners
         (at + length (sealed_words block)) (open_words block) at cells
 
--- the fixed words, with an announce word for each holder that has a seat
+-- the fixed words, with an announce word for each holder
 pub record IsFixed (seats : ℕ) (words : List ℕ) (head next ticket : ℕ)
     (announced : ℕ → ℕ) : Type 0 where
   pub head_shown : slice_index words HEAD ≡ head
@@ -62,8 +62,8 @@ pub record IsBounded (cap seats next : ℕ) (owners : ℕ → Owner) : Type 0 wh
 
 module _ {B V : Type 0} (sealed_words : B → List ℕ) (open_words : B → ℕ)
     (hands_of : V → List Held) where
-  -- The words of an arena with `cap` words and so many seats show the state: the fixed words are as
-  -- it says, published blocks and blocks in hand stand in the words and own them, and what nobody
+  -- The words of an arena with `cap` words and so many holders show the state: the fixed words are
+  -- as it says, published blocks and blocks in hand stand in the words and own them, and what nobody
   -- drew is 0. A cell that no published block has counts as 0, so a block is published without a
   -- change to the cells.
   pub record IsLaidOut (cap seats : ℕ) (words : List ℕ) (state : ArenaState B V) : Type 0 where

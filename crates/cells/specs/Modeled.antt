@@ -32,7 +32,7 @@ pub record IsRound (inside : round.Inside) : Type 0 where
   pub plan : IsPlan inside.plan
   pub planned : inside.plan.seats ≡ inside.layout.seats
 
--- a pass is what its seat's view says, and its calls
+-- a pass is what its table seat's view says, and its calls
 abbrev pub pass_value : pass.Inside → PassValue
 pass_value inside = record {
   table = inside.seat.table_id;
@@ -40,7 +40,7 @@ pass_value inside = record {
   calls = inside.calls;
 }
 
--- the seat speaks for one pass, whose plain fields are as its view says
+-- the table seat speaks for one pass, whose plain fields are as its view says
 pub record IsWhole (inside : pass.Inside) : Type 0 where
   pub one : inside.seat.me ≡ (pass_seat (pass_of inside.seat.me.0), [])
   pub number : inside.number ≡ (pass_of inside.seat.me.0).number

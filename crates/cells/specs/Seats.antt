@@ -1,5 +1,5 @@
--- Which seat at the table speaks for which pass. A seat that speaks for none has no part in the
--- invariant but that its front begins the history.
+-- Which seat at the table speaks for which pass. A table seat that speaks for none has no part in
+-- the invariant but that its front begins the history.
 use Rattle.std.specs.Prelude.{◌≡◌, ℕ, List, [], ◌∷◌, All}
 use mathlib.Core.List.{IsPrefix}
 use mathlib.Core.Option.{some}
@@ -14,19 +14,19 @@ use Rattle.cells.specs.declared.rule.Setup.{Setup}
 use Rattle.cells.specs.Invariant.{HoldsRound}
 use Rattle.cells.specs.Begins.{facts_from}
 
--- the seat of one pass
+-- the table seat of one pass
 abbrev pub pass_seat : PassView → SeatView
 pass_seat view = record { front = []; rights = view ∷ [] }
 
--- the seat of a note
+-- the table seat of a note
 abbrev pub note_seat : List Entry → SeatView
 note_seat front = record { front = front; rights = [] }
 
--- the seat of several passes
+-- the table seat of several passes
 abbrev pub gathered_seat : List PassView → SeatView
 gathered_seat views = record { front = []; rights = views }
 
--- what is left of a seat that another took in
+-- what is left of a table seat that another took in
 abbrev pub spent_seat : SeatView
 spent_seat = note_seat []
 
@@ -34,7 +34,7 @@ spent_seat = note_seat []
 abbrev pub no_pass : PassView
 no_pass = fresh_view (record { seats = 0; cap = 0; opened = 0; keys = [] }) 0
 
--- the first pass that a seat speaks for
+-- the first pass that a table seat speaks for
 abbrev pub first_pass : List PassView → PassView
 first_pass [] = no_pass
 first_pass (view ∷ others) = view
@@ -44,23 +44,23 @@ abbrev pub other_passes : List PassView → List PassView
 other_passes [] = []
 other_passes (view ∷ others) = others
 
--- the pass that a pass's seat speaks for
+-- the pass that a pass's table seat speaks for
 abbrev pub pass_of : SeatView → PassView
 pass_of seat = first_pass seat.rights
 
--- the seat speaks for the pass: it has the pass's view, and is the one that does
+-- the table seat speaks for the pass: it has the pass's view, and is the one that does
 pub record SpeaksFor (views : List PassView) (owner : ℕ → ℕ) (seat : ℕ) (view : PassView)
     : Type 0 where
   pub is_view : get_elem? views view.number ≡ some view
   pub only : owner view.number ≡ seat
 
--- a seat's front begins the history, and it speaks for the passes that it has the right to
+-- a table seat's front begins the history, and it speaks for the passes that it has the right to
 pub record IsSeat (views : List PassView) (history : List Entry) (owner : ℕ → ℕ) (number : ℕ)
     (seat : SeatView) : Type 0 where
   pub front : IsPrefix seat.front history
   pub rights : All (SpeaksFor views owner number) seat.rights
 
--- so it is with every seat, and no pass has two
+-- so it is with every table seat, and no pass has two
 pub record AreSeated (views : List PassView) (history : List Entry) (seats : List SeatView)
     : Type 0 where
   pub owner : ℕ → ℕ
@@ -68,7 +68,7 @@ pub record AreSeated (views : List PassView) (history : List Entry) (seats : Lis
       → IsSeat views history owner number seat
 
 -- the rule of a round's table: its words stand for a state that meets the invariant, with these
--- seats
+-- table seats
 pub record IsRuled (facts : RoundFacts) (table : State ℕ SeatView) : Type 0 where
   pub state : RoundState
   pub history : List Entry
@@ -79,6 +79,6 @@ pub record IsRuled (facts : RoundFacts) (table : State ℕ SeatView) : Type 0 wh
 abbrev pub facts_of : Setup → RoundFacts
 facts_of setup = facts_from setup.seats setup.words.value
 
--- the first seat speaks for all passes
+-- the first table seat speaks for all passes
 abbrev pub first_seat : Setup → SeatView
 first_seat setup = record { front = []; rights = fresh_views (facts_of setup) }

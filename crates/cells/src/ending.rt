@@ -41,7 +41,7 @@ impl Round {
     }
 }
 
-// One seat for all of the passes, of which there is one at least.
+// One table seat for all of the passes, of which there is one at least.
 fn gathered(table: &RoundTable, mut passes: Vec<Pass>) -> RoundSeat
     requires word { 0 < table.now.shared.table_id.words }
     requires some { passes.items ≢ [] }

@@ -42,7 +42,7 @@ impl Round {
     }
 }
 
-// A pass of its own for each number. The first seat is left with none, and goes.
+// A pass of its own for each number. The first table seat is left with none, and goes.
 fn cut_passes(round: &Round, mut seat: RoundSeat, passes: &mut Vec<Pass>) -> Result<(), NoMemory>
     requires seat { SpeaksForAll round.now seat.table_id seat.me }
     requires empty { passes.old.items ≡ [] }

@@ -1,4 +1,4 @@
-// What each kind of step at the table tells its pass, and how seats are cut and put together.
+// What each kind of step at the table tells its pass, and how table seats are cut and put together.
 ghost use Rattle.std.specs.Prelude.{[], ◌++◌};
 ghost use Rattle.cells.specs.Moves.{Tells, load_head_tells, load_sealed_tells, load_bucket_tells, DrawTells, write_tells, LearnTells, view_after_hear};
 ghost use Rattle.cells.specs.Past.{longest_front};
@@ -62,7 +62,7 @@ impl Join<SeatView> for TakeNote {
     ghost spent = { spent_seat };
 }
 
-// The first of a seat's passes gets a seat of its own.
+// The first of a table seat's passes gets a table seat of its own.
 pub(crate) struct CutPass;
 
 impl Split<SeatView> for CutPass {
@@ -71,7 +71,7 @@ impl Split<SeatView> for CutPass {
     ghost right = { λ seat. pass_seat (pass_of seat) };
 }
 
-// A seat takes the passes of another in.
+// A table seat takes the passes of another in.
 pub(crate) struct GatherPass;
 
 impl Join<SeatView> for GatherPass {
@@ -81,7 +81,7 @@ impl Join<SeatView> for GatherPass {
     ghost spent = { spent_seat };
 }
 
-// The longest front of a seat's passes gets a seat of its own.
+// The longest front of a table seat's passes gets a table seat of its own.
 pub(crate) struct CutFront;
 
 impl Split<SeatView> for CutFront {

@@ -6,11 +6,11 @@ use std::collections::LinkedList;
 use std::snapshot::Snapshot;
 use step_core::{PassView, Words};
 
-/// What a seat at the table knows. No value of it is made.
+/// What a table seat at the table knows. No value of it is made.
 pub struct SeatView {
     /// A front of the history, as a note has it. The passes have their own.
     pub front: LinkedList<Entry>,
-    /// The views of the passes that the seat speaks for: one for a pass, none for a note.
+    /// The views of the passes that the table seat speaks for: one for a pass, none for a note.
     pub rights: LinkedList<PassView>,
 }
 
@@ -23,7 +23,7 @@ pub struct Setup {
     pub words: Snapshot<Words>,
 }
 
-/// The table invariant, and which seat speaks for which pass.
+/// The table invariant, and which table seat speaks for which pass.
 pub struct RoundRule;
 
 impl TableRule<u64, SeatView, Setup> for RoundRule {

@@ -100,7 +100,7 @@ pub record KeepsHome (blocks : ℕ → Option Published) (row : RowBlock) : Type
   pub holds : HoldsClass row
   pub op : row.op ≢ 0 → HasOp blocks row
 
--- the words of a round with so many seats and its published blocks fit
+-- the words of a round with so many passes and its published blocks fit
 pub record HoldsBlocks (seats : ℕ) (words : List ℕ) (state : RoundState) : Type 0 where
   pub laid : AreLaidOut (length words) seats words state
   pub chain : IsChain state.head state.blocks state.cells

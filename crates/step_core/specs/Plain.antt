@@ -32,8 +32,8 @@ pub record PlainTable : Type 0 where
   -- their keys, by bucket
   pub keys : ℕ → List ℕ
 
--- the words of a round with so many seats are this table: the generation, and behind it the rows in
--- the order of the buckets
+-- the words of a round with so many passes are this table: the generation, and behind it the rows
+-- in the order of the buckets
 pub record IsPlainTable (seats : ℕ) (words : List ℕ) (table : PlainTable) : Type 0 where
   pub first : base_of seats ≤ table.head
   pub small : table.exponent ≤ max_exponent

@@ -29,7 +29,7 @@ use Rattle.cells.proofs.parts.SameTurns.{sees_goes}
 use Rattle.cells.proofs.parts.PutState.{there_inside}
 use Rattle.cells.proofs.parts.PutView.{Goes, put, put_view, account_stays}
 
--- a seat that is spent owes nothing
+-- a table seat that is spent owes nothing
 spent_beside : (views : List PassView) (history : List Entry) (seats : List SeatView) (id : ℕ) → AreSeated views history seats
     → AreSeated views history (slice_set seats id spent_seat)
 spent_beside views history seats id seated = record {
@@ -82,7 +82,7 @@ module _ {facts : RoundFacts} {words : List ℕ} {state : RoundState} {history :
       (record { old = old; is_view = there; fronts = KeepsFronts-refl old.hands }))
       (account_stays state.views old.number old (view_after_note old) there facts state.next state.ticket refl refl round.fits.account)
 
--- a seat that has only one pass still has, with another view of it
+-- a table seat that has only one pass still has, with another view of it
 pub one_pass_still : (old new : Me ℕ SeatView) (view : PassView) → old ≡ (pass_seat (pass_of old.0), [])
     → new ≡ (pass_seat view, old.1) → new ≡ (pass_seat (pass_of new.0), [])
 one_pass_still old new view one joined =

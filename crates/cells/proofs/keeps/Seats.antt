@@ -1,4 +1,4 @@
--- Cutting a seat in two and putting two seats together keep the rule.
+-- Cutting a table seat in two and putting two table seats together keep the rule.
 use Rattle.std.proofs.Common.{◌≡◌, ◌≢◌, ℕ, ◌∷◌, ◌++◌, sym, ◌∙◌, All}
 use mathlib.Core.List.{IsPrefix}
 use Rattle.std.proofs.lemmas.List.Elements.{All-weaker}
@@ -12,7 +12,7 @@ use Rattle.cells.proofs.laws.Fronts.{longest_front-begins}
 use Rattle.cells.proofs.parts.Seated.{cut_seated, joined_seated, beside_seated}
 
 module _ (facts : RoundFacts) where
-  -- the first of a seat's passes may get a seat of its own, where the others are other passes
+  -- the first of a table seat's passes may get a table seat of its own, where the others are other passes
   pub cut_keeps : (id : ℕ) (seat : SeatView) → seat.rights ≡ pass_of seat ∷ other_passes seat.rights
       → All (λ view. view.number ≢ (pass_of seat).number) (other_passes seat.rights)
       → Splits (IsRuled facts) id seat (record { front = seat.front; rights = other_passes seat.rights }) (pass_seat (pass_of seat))
@@ -23,7 +23,7 @@ module _ (facts : RoundFacts) where
     seated = cut_seated ruled.state.views ruled.history table.views ruled.seated id seat there one apart;
   }
 
-  -- a seat may take in the passes of any other
+  -- a table seat may take in the passes of any other
   pub gather_keeps : (id : ℕ) (seat : SeatView) (other_id : ℕ) (other : SeatView)
       → Joins (IsRuled facts) id seat other_id other (record { front = seat.front; rights = other.rights ++ seat.rights }) spent_seat
   gather_keeps id seat other_id other table ruled there apart at =
@@ -36,7 +36,7 @@ module _ (facts : RoundFacts) where
             (sym (set_else table.views id other_id both apart) ∙ at);
       }
 
-  -- the longest front of a seat's passes may get a seat of its own
+  -- the longest front of a table seat's passes may get a table seat of its own
   pub front_keeps : (id : ℕ) (seat : SeatView) → Splits (IsRuled facts) id seat seat (note_seat (longest_front seat.rights))
   front_keeps id seat table ruled there =
       let own = ruled.seated.each id seat there in

@@ -1,4 +1,4 @@
--- The first seat of a round is cut into those of its passes, one after the other.
+-- The first table seat of a round is cut into those of its passes, one after the other.
 use Rattle.std.proofs.Common.{◌≡◌, ◌≢◌, ℕ, suc, ◌+◌, ◌-◌, ◌<◌, List, [], ◌∷◌, ◌++◌, map, refl, sym, ap, ◌∙◌, subst, arith, None, All}
 use Rattle.std.specs.List.{range_with_len}
 use Rattle.std.proofs.lemmas.List.Elements.{All-nil}
@@ -19,7 +19,7 @@ use Rattle.cells.specs.declared.rule.SeatView.{SeatView}
 use Rattle.cells.proofs.keeps.Seats.{cut_keeps}
 use Rattle.cells.proofs.laws.Opens.{all_fresh}
 
--- the passes below the number have their seats, and the first seat has the rest
+-- the passes below the number have their table seats, and the first table seat has the rest
 pub record IsCut (round : RoundValue) (number : ℕ) (table : TableId) (me : Me ℕ SeatView) (passes : List PassValue)
     : Type 0 where
   pub same_table : table ≡ round.table

@@ -1,4 +1,4 @@
--- With all passes in one seat, the words at the end and the longest front are those of the round.
+-- With all passes in one table seat, the words at the end and the longest front are those of the round.
 use Rattle.std.proofs.Common.{◌≡◌, ℕ, zero, suc, ◌+◌, ◌<◌, ◌≤◌, List, [], ◌∷◌, ◌++◌, append_assoc, get_or, length, length-append, map, take, refl, sym, ap, ◌∙◌, subst, arith, add-one, All}
 use mathlib.Core.List.{IsPrefix}
 use mathlib.Core.Option.{some, some-injective, some-ne-none}

@@ -1,4 +1,4 @@
--- One seat takes in the passes of a round one after the other, from the last to the first.
+-- One table seat takes in the passes of a round one after the other, from the last to the first.
 use Rattle.std.proofs.Common.{◌≡◌, ℕ, List, [], ◌∷◌, ◌++◌, map, sym, ap, ◌∙◌, subst, Some, All, append_assoc}
 use Rattle.std.proofs.lemmas.List.Elements.{All-cons, All-nil, All-pop}
 use Rattle.atomic_table.specs.Table.{Me}
@@ -14,7 +14,7 @@ use Rattle.cells.specs.declared.rule.SeatView.{SeatView}
 abbrev pub views_of : List PassValue → List PassView
 views_of passes = map (λ pass. pass.view) passes
 
--- the seat has taken in the passes behind the rest, which are of its table too
+-- the table seat has taken in the passes behind the rest, which are of its table too
 pub record IsGathered (table : TableId) (all rest : List PassValue) (seat_table : TableId) (me : Me ℕ SeatView)
     : Type 0 where
   pub same_table : seat_table ≡ table
@@ -28,7 +28,7 @@ pub record IsGathered (table : TableId) (all rest : List PassValue) (seat_table 
 begun_calls : (inside : pass.Inside) (value : PassValue) → pass_value inside ≡ value → IsWhole inside → HasBegunCalls value
 begun_calls inside value is whole = subst HasBegunCalls is whole.serials
 
--- the seat of a pass
+-- the table seat of a pass
 pub seat_whole : (inside : pass.Inside) (value : PassValue) → pass_value inside ≡ value → IsWhole inside
     → inside.seat.me ≡ (pass_seat value.view, [])
 seat_whole inside value is whole = whole.one ∙ (λ i. (pass_seat (is i).view, []))
@@ -38,7 +38,7 @@ pub last_ours : (table : TableId) (all rest : List PassValue) (last : PassValue)
     → all ≡ rest ++ last ∷ [] → (All (λ pass. pass.table ≡ table) rest) × (last.table ≡ table)
 last_ours table all rest last ours is = All-pop (λ pass. pass.table ≡ table) all rest (Some last) is ours
 
--- the seat of the last pass is the first to take others in
+-- the table seat of the last pass is the first to take others in
 pub gathered_last : (table : TableId) (all rest : List PassValue) (last : PassValue) (inside : pass.Inside)
     → All (λ pass. pass.table ≡ table) all → all ≡ rest ++ last ∷ [] → pass_value inside ≡ last → IsWhole inside
     → IsGathered table all rest inside.seat.table_id inside.seat.me

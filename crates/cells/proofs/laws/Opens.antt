@@ -1,4 +1,4 @@
--- At the start of a round its table keeps the rule: the words are an opening, and the first seat speaks for all passes.
+-- At the start of a round its table keeps the rule: the words are an opening, and the first table seat speaks for all passes.
 use Rattle.std.proofs.Common.{◌≡◌, ℕ, zero, suc, ◌+◌, ◌^◌, ◌<◌, ◌≤◌, List, [], ◌∷◌, length, map, refl, sym, ap, ◌∙◌, subst, arith, All}
 use mathlib.Core.Option.{some, some-injective, some-ne-none}
 use lib.ListN.{get_elem?}
@@ -62,7 +62,7 @@ module _ (facts : RoundFacts) where
   abbrev fresh : List PassView
   fresh = fresh_views facts
 
-  -- the seat with all of them
+  -- the table seat with all of them
   abbrev whole_seat : SeatView
   whole_seat = record { front = []; rights = fresh }
 
@@ -75,7 +75,7 @@ module _ (facts : RoundFacts) where
         only = refl;
       })
 
-  -- it is the only seat
+  -- it is the only table seat
   fresh_seat : (number : ℕ) (seat : SeatView) → get_elem? (whole_seat ∷ []) number ≡ some seat
       → IsSeat fresh [] (λ _. 0) number seat
   fresh_seat zero seat there =
@@ -85,7 +85,7 @@ module _ (facts : RoundFacts) where
       })
   fresh_seat (suc number) seat there = absurd (some-ne-none seat (sym there))
 
-  -- the first seat speaks for all passes
+  -- the first table seat speaks for all passes
   pub fresh_seated : AreSeated fresh [] (whole_seat ∷ [])
   fresh_seated = record { owner = λ _. 0; each = fresh_seat }
 
@@ -161,7 +161,7 @@ module _ (seats cap : ℕ) (keys : List ℕ) (rising : IsStrictlyIncreasing keys
     so_far = one_generation;
   }
 
-  -- and keeps the rule with the first seat
+  -- and keeps the rule with the first table seat
   pub opening_ruled : IsRuled facts (opening words [] (record { front = []; rights = views }))
   opening_ruled = record {
     state = state;

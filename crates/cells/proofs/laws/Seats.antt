@@ -1,4 +1,4 @@
--- What one pass may do in a round, its seat may do at the round's table.
+-- What one pass may do in a round, its table seat may do at the round's table.
 use Rattle.std.proofs.Common.{◌≡◌, ◌≢◌, ℕ, ◌^◌, ◌<◌, ⊎_elim, List, [], slice_index, slice_set, refl, sym, ap, ◌∙◌, subst, arith}
 use Rattle.std.proofs.lemmas.List.Elements.{All-cons, All-head, All-nil, All-weaker}
 use mathlib.Core.List.{IsPrefix}
@@ -24,7 +24,7 @@ use Rattle.cells.specs.Seats.{facts_of, pass_of, pass_seat, SpeaksFor, IsSeat, A
 use Rattle.cells.proofs.laws.Sound.{sound_view}
 use Rattle.cells.proofs.parts.PutState.{there_inside}
 
--- the only pass of a seat is the one that the seat speaks for
+-- the only pass of a table seat is the one that the table seat speaks for
 pub speaks_for : {views : List PassView} {history : List Entry} {seats : List SeatView} (seated : AreSeated views history seats)
     (id : ℕ) (view : PassView) → get_elem? seats id ≡ some (pass_seat view) → SpeaksFor views seated.owner id view
 speaks_for {views} seated id view is_seat =
@@ -33,7 +33,7 @@ speaks_for {views} seated id view is_seat =
 module _ {views : List PassView} {past : List Entry} {seats : List SeatView} (seated : AreSeated views past seats)
     (history : List Entry) (id : ℕ) (old new : PassView) (grows : IsPrefix past history) (number : new.number ≡ old.number)
     (is_seat : get_elem? seats id ≡ some (pass_seat old)) where
-  -- the stepping pass's seat speaks for its new view
+  -- the stepping pass's table seat speaks for its new view
   own_seat : IsSeat (slice_set views old.number new) history seated.owner id (pass_seat new)
   own_seat =
       let speaks = speaks_for seated id old is_seat in
@@ -48,7 +48,7 @@ module _ {views : List PassView} {past : List Entry} {seats : List SeatView} (se
         }) (All-nil after);
       }
 
-  -- another seat's pass is another pass
+  -- another table seat's pass is another pass
   still_speaks : (other : ℕ) → other ≢ id → (view : PassView) → SpeaksFor views seated.owner other view
       → SpeaksFor (slice_set views old.number new) seated.owner other view
   still_speaks other differs view speaks =
@@ -59,7 +59,7 @@ module _ {views : List PassView} {past : List Entry} {seats : List SeatView} (se
         only = speaks.only;
       }
 
-  -- so every other seat is one still
+  -- so every other table seat is one still
   other_seat : (other : ℕ) (seat : SeatView) → other ≢ id → get_elem? seats other ≡ some seat
       → IsSeat (slice_set views old.number new) history seated.owner other seat
   other_seat other seat differs is_other =
@@ -70,7 +70,7 @@ module _ {views : List PassView} {past : List Entry} {seats : List SeatView} (se
             (still_speaks other differs) seat.rights before.rights;
       }
 
-  -- where a pass has a new view and the history may have grown, its seat with that view and the others are seated again
+  -- where a pass has a new view and the history may have grown, its table seat with that view and the others are seated again
   pub reseated : AreSeated (slice_set views old.number new) history (slice_set seats id (pass_seat new))
   reseated = record {
     owner = seated.owner;
@@ -89,11 +89,11 @@ same_words kind words place word is_place is_word =
 
 module _ (facts : RoundFacts) (id : ℕ) (table : State ℕ SeatView) (ruled : IsRuled facts table) (old : PassView)
     (is_seat : get_elem? table.views id ≡ some (pass_seat old)) (told : PassView → Type 0) where
-  -- the pass's view is the one that its seat has
+  -- the pass's view is the one that its table seat has
   is_view : get_elem? ruled.state.views old.number ≡ some old
   is_view = (speaks_for ruled.seated id old is_seat).is_view
 
-  -- after the move the rule holds, with the seat's new view
+  -- after the move the rule holds, with the table seat's new view
   rule_stays : (words : List ℕ) (moved : Moved facts words ruled.state ruled.history old told)
       → IsRuled facts (record { words = words; homes = table.homes; views = slice_set table.views id (pass_seat moved.view) })
   rule_stays words moved = record {
@@ -110,7 +110,7 @@ module _ (facts : RoundFacts) (id : ℕ) (table : State ℕ SeatView) (ruled : I
       (ap (λ (views : List PassView). get_elem? views old.number) moved.views
       ∙ set_here ruled.state.views old.number moved.view (there_inside ruled.state.views old.number old is_view))
 
--- what the pass may do in the round, and is told of it, its seat may do at the table, and is told
+-- what the pass may do in the round, and is told of it, its table seat may do at the table, and is told
 pub pass_allows : (facts : RoundFacts) (slots id : ℕ) (me : Me ℕ SeatView) (place : ℕ) (change : ℕ → ℕ) (kind : Step)
     (told : PassView → TableStep ℕ → ℕ → PassView → Type 0) (step : TableStep ℕ)
     → me ≡ (pass_seat (pass_of me.0), [])
@@ -145,7 +145,7 @@ pass_allows facts slots id me place change kind told step one is_place is_change
       },
     )
 
--- what the pass may load in the round, its seat may load at the table of the round's fields
+-- what the pass may load in the round, its table seat may load at the table of the round's fields
 pub load_allows : (inside : round.Inside) → IsRound inside → (id : ℕ) (me : Me ℕ SeatView) (place : ℕ) (kind : Step)
     (told : PassView → TableStep ℕ → ℕ → PassView → Type 0)
     → me ≡ (pass_seat (pass_of me.0), []) → (pass_of me.0).facts ≡ facts_of inside.table.shared.key → place < (pass_of me.0).facts.cap

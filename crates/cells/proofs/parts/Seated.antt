@@ -1,4 +1,4 @@
--- No pass has two seats, also after a seat is cut in two or took in another.
+-- No pass has two table seats, also after a table seat is cut in two or took in another.
 use Rattle.std.proofs.Common.{◌≡◌, ◌≢◌, ℕ, zero, suc, Bool, true, false, cond, nat_eq, List, [], ◌∷◌, ◌++◌, length, slice_set, refl, sym, ap, ◌∙◌, subst, arith, length-set, inl, inr, ◌⊎◌, ⊎_elim, All}
 use mathlib.Core.List.{IsPrefix}
 use mathlib.Core.Option.{some, some-injective, some-ne-none}
@@ -20,15 +20,15 @@ at_more (first ∷ others) last item zero is = inl is
 at_more (first ∷ others) last item (suc place) is =
     ⊎_elim (λ t. inl t) (λ (t : (place ≡ length others) × (last ≡ item)). inr (ap suc t.0, t.1)) (at_more others last item place is)
 
--- the owner after one pass got another seat
+-- the owner after one pass got another table seat
 abbrev handed : (ℕ → ℕ) → ℕ → ℕ → ℕ → ℕ
 handed owner pass seat number = cond (nat_eq number pass) seat (owner number)
 
--- the owner after one seat took in what another had
+-- the owner after one table seat took in what another had
 abbrev taken : (ℕ → ℕ) → ℕ → ℕ → ℕ → ℕ
 taken owner from to number = cond (nat_eq (owner number) from) to (owner number)
 
--- the pass has the seat that it got
+-- the pass has the table seat that it got
 handed_same : (owner : ℕ → ℕ) (pass seat number : ℕ) → number ≡ pass → handed owner pass seat number ≡ seat
 handed_same owner pass seat number same =
     let test : nat_eq number pass ≡ true = grind (arith, nat_tests) in
@@ -40,7 +40,7 @@ handed_other owner pass seat number other =
     let test : nat_eq number pass ≡ false = grind (arith, nat_tests) in
     ap (λ (b : Bool). cond b seat (owner number)) test
 
--- what the other seat had is the seat's
+-- what the other table seat had is the table seat's
 taken_from : (owner : ℕ → ℕ) (from to number : ℕ) → owner number ≡ from → taken owner from to number ≡ to
 taken_from owner from to number same =
     let own : ℕ = owner number in
@@ -57,7 +57,7 @@ taken_other owner from to number other =
     ap (λ (b : Bool). cond b to (owner number)) test
 
 module _ (views : List PassView) (history : List Entry) where
-  -- a seat is one under another owner where that leaves it its passes
+  -- a table seat is one under another owner where that leaves it its passes
   still_seat : (owner other : ℕ → ℕ) (number : ℕ) (seat : SeatView)
       → ((view : PassView) → SpeaksFor views owner number view → other view.number ≡ number)
       → IsSeat views history owner number seat → IsSeat views history other number seat
@@ -73,7 +73,7 @@ module _ (views : List PassView) (history : List Entry) where
     abbrev owner : ℕ → ℕ
     owner = seated.owner
 
-    -- the seat is one
+    -- the table seat is one
     own : IsSeat views history owner id seat
     own = seated.each id seat there
 
@@ -87,7 +87,7 @@ module _ (views : List PassView) (history : List Entry) where
       abbrev others : List PassView
       others = other_passes seat.rights
 
-      -- their seat
+      -- their table seat
       abbrev rest : SeatView
       rest = record { front = seat.front; rights = others }
 
@@ -95,7 +95,7 @@ module _ (views : List PassView) (history : List Entry) where
       abbrev cut_owner : ℕ → ℕ
       cut_owner = handed owner first.number (length seats)
 
-      -- the seat speaks for all of its passes,
+      -- the table seat speaks for all of its passes,
       speak_all : All (SpeaksFor views owner id) (first ∷ others)
       speak_all = subst (All (SpeaksFor views owner id)) one own.rights
 
@@ -115,7 +115,7 @@ module _ (views : List PassView) (history : List Entry) where
             };
           }
 
-      -- each other seat for its own,
+      -- each other table seat for its own,
       other_seated : (number : ℕ) (other : SeatView) → number ≢ id → get_elem? seats number ≡ some other
           → IsSeat views history cut_owner number other
       other_seated number other not at =
@@ -133,7 +133,7 @@ module _ (views : List PassView) (history : List Entry) where
         }) (All-nil (SpeaksFor views cut_owner (length seats)));
       }
 
-      -- so it is with every seat
+      -- so it is with every table seat
       cut_each : (number : ℕ) (other : SeatView) → get_elem? (slice_set seats id rest ++ pass_seat first ∷ []) number ≡ some other
           → IsSeat views history cut_owner number other
       cut_each number other at =
@@ -148,11 +148,11 @@ module _ (views : List PassView) (history : List Entry) where
                 (λ i. (sym (last.0 ∙ length-set seats id rest) i, last.1 i)) new_seated
           ]
 
-      -- the first pass of a seat may get a seat of its own
+      -- the first pass of a table seat may get a table seat of its own
       pub cut_seated : AreSeated views history (slice_set seats id rest ++ pass_seat first ∷ [])
       cut_seated = record { owner = cut_owner; each = cut_each }
 
-    -- a note's seat may stand beside it, and the passes stay where they were
+    -- a note's table seat may stand beside it, and the passes stay where they were
     pub beside_seated : (front : List Entry) → IsPrefix front history
         → AreSeated views history (slice_set seats id seat ++ note_seat front ∷ [])
     beside_seated front begins = record {
@@ -170,7 +170,7 @@ module _ (views : List PassView) (history : List Entry) where
     }
 
     module _ (other_id : ℕ) (other : SeatView) (apart : ¬ (other_id ≡ id)) (at : get_elem? seats other_id ≡ some other) where
-      -- the seat with the other's passes
+      -- the table seat with the other's passes
       abbrev both : SeatView
       both = record { front = seat.front; rights = other.rights ++ seat.rights }
 
@@ -191,7 +191,7 @@ module _ (views : List PassView) (history : List Entry) where
             taken_other owner other_id id view.number (λ same. apart (sym same ∙ speaks.only)) ∙ speaks.only) own).rights;
       }
 
-      -- a third seat for its own,
+      -- a third table seat for its own,
       third_seated : (number : ℕ) (third : SeatView) → number ≢ other_id → get_elem? seats number ≡ some third
           → IsSeat views history join_owner number third
       third_seated number third not there_too =
@@ -203,7 +203,7 @@ module _ (views : List PassView) (history : List Entry) where
       spent_seated : IsSeat views history join_owner other_id spent_seat
       spent_seated = record { front = (history, refl); rights = All-nil (SpeaksFor views join_owner other_id) }
 
-      -- so it is with every seat
+      -- so it is with every table seat
       join_each : (number : ℕ) (third : SeatView)
           → get_elem? (slice_set (slice_set seats id both) other_id spent_seat) number ≡ some third
           → IsSeat views history join_owner number third
@@ -218,6 +218,6 @@ module _ (views : List PassView) (history : List Entry) where
             ]
           ]
 
-      -- a seat may take in the passes of another
+      -- a table seat may take in the passes of another
       pub joined_seated : AreSeated views history (slice_set (slice_set seats id both) other_id spent_seat)
       joined_seated = record { owner = join_owner; each = join_each }

@@ -22,7 +22,7 @@ pub record IsShown (seats : ℕ) (words : List ℕ) (at : ℕ) (block : Publishe
   pub within : at + block_len block ≤ length words
   pub sealed : Stands words at (sealed_words block)
 
--- the words of a round with so many seats show these published blocks
+-- the words of a round with so many passes show these published blocks
 pub record ShowsBlocks (seats : ℕ) (words : List ℕ) (blocks : ℕ → Option Published) : Type 0 where
   pub shown : (at : ℕ) (block : Published) → blocks at ≡ Some block → IsShown seats words at block
   pub empty : (at : ℕ) → next_of words ≤ at → slice_index words at ≡ 0

@@ -5,7 +5,7 @@ use Rattle.cells.proofs.keeps.Seats.{gather_keeps}
 use Rattle.cells.proofs.laws.Gathering.{gathered_last, gathered_more, all_begun, last_ours, seat_whole}
 use Rattle.cells.proofs.ending.gathered.Goals as goal
 
--- the last pass's seat is the first to take others in
+-- the last pass's table seat is the first to take others in
 pub loop-pass-init : goal.loop-pass-init
 loop-pass-init c =
     gathered_last c.args.table.now.shared.table_id c.args.passes.items c.pop.new.self.items c.in-Some.last c.last.inside

@@ -4,12 +4,12 @@ use Rattle.cells.specs.Tokens.{RoundValue}
 use Rattle.cells.proofs.laws.Cutting.{cut_none, cut_allowed, cut_pass, cut_more, cut_all, fresh_whole, round_seats, round_small, round_word}
 use Rattle.cells.proofs.opening.cut_passes.Goals as goal
 
--- before the first cut the seat has all passes
+-- before the first cut the table seat has all passes
 pub loop-number-init : goal.loop-number-init
 loop-number-init c =
     cut_none c.args.round.now c.args.seat.table_id c.args.seat.me c.args.passes.now.items c.requires.seat c.requires.empty
 
--- the next pass may get a seat of its own
+-- the next pass may get a table seat of its own
 pub split_seat-cut-requires : goal.split_seat-cut-requires
 split_seat-cut-requires c =
     let inside = c.round.inside in
@@ -34,7 +34,7 @@ invariant_of-push c =
     fresh_whole round.facts number _ (round_small c.round.inside round c.round.view_is c.round.invariant) lt
     (c.split_seat-cut.ensures.4 ∙ (λ i. (pass_seat (same i), []))) refl refl
 
--- one pass more has its seat
+-- one pass more has its table seat
 pub loop-number-preserved : goal.loop-number-preserved
 loop-number-preserved c =
     let round = c.args.round.now in

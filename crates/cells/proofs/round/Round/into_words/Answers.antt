@@ -22,7 +22,7 @@ gathered-seat-requires-clause-some c none =
     some_passes c.args.passes.items c.args.self.facts.seats c.requires.passes.once
     (round_small c.self.inside c.args.self c.self.view_is c.self.invariant).some_pass none
 
--- the longest front may get a seat of its own
+-- the longest front may get a table seat of its own
 pub split_seat-requires : goal.split_seat-requires
 split_seat-requires c =
     let shared = c.self.inside.table.shared in

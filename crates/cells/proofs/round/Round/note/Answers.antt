@@ -3,7 +3,7 @@ use Rattle.cells.specs.Seats.{facts_of}
 use Rattle.cells.proofs.keeps.Notes.{note_splits, noted_whole}
 use Rattle.cells.proofs.round.Round.note.Goals as goal
 
--- a pass's front may get a seat of its own
+-- a pass's front may get a table seat of its own
 pub split_seat-seat-requires : goal.split_seat-seat-requires
 split_seat-seat-requires c =
     let seat = c.pass.inside.seat in

@@ -1,5 +1,5 @@
 -- The first seat at the table is dealt out, one part after the other.
-use Rattle.std.proofs.Common.{◌≡◌, ℕ, ◌+◌, ◌-◌, ◌*◌, ◌<◌, List, [], ◌∷◌, ◌++◌, length, min, sym, ap, ◌∙◌, subst, arith, None, replicate}
+use Rattle.std.proofs.Common.{◌≡◌, ℕ, ◌+◌, ◌-◌, ◌<◌, List, [], ◌∷◌, ◌++◌, sym, ap, ◌∙◌, subst, arith, None, replicate}
 use Rattle.std.proofs.lemmas.List.{replicate_more}
 use Rattle.atomic_table.specs.Seated.{TableId}
 use Rattle.atomic_table.specs.Table.{Me, Splits}
@@ -9,7 +9,7 @@ use Rattle.claims.specs.declared.seat.ClaimSeat.TheInside as seat
 use Rattle.claims.specs.Divided.{Divides}
 use Rattle.claims.specs.Gathering.{HasAllParts}
 use Rattle.claims.specs.Modeled.{IsWhole}
-use Rattle.claims.specs.Places.{end_of}
+use Rattle.claims.specs.Places.{EndsLone}
 use Rattle.claims.specs.Tokens.{ClaimsValue, SeatValue, fresh_seat}
 use Rattle.claims.specs.Views.{parts_view, part_view, rest_view, worker_view}
 use Rattle.claims.proofs.KeepsSeats.{cut_keeps}
@@ -42,8 +42,7 @@ deal_allowed key claims count id me is lt =
 pub fresh_whole : (inside : seat.Inside) (view : SeatView) → inside.seat.me ≡ (part_view view, []) → inside.spent ≡ None
     → IsWhole inside
 fresh_whole inside view is unspent =
-    let Lone : Me ℕ SeatView → Type 0 = λ me. me.0.setup.seats ≡ 1
-    → end_of me.0.claims ≡ min (me.0.setup.chunk * length me.0.claims) me.0.setup.len in
+    let Lone : Me ℕ SeatView → Type 0 = λ me. EndsLone me.0.setup me.0.claims in
     record {
       one = is ∙ (λ i. (worker_view (sym is i).0.setup (sym is i).0.claims (sym unspent i), []));
       lone = subst Lone (sym is) (λ one. omega arith);

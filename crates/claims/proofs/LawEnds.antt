@@ -2,6 +2,8 @@
 use Rattle.std.proofs.Common.{◌≡◌, ℕ, ◌*◌, ◌<◌, ◌≤◌, List, [], length, min, refl, sym, ap, ◌∙◌, arith, get_or, lt-ltb, le-ltb, sum_by, Any, IsSome, Option, Some, None}
 use mathlib.Core.Option.{some, some-injective}
 use lib.ListN.{get_elem?}
+use Rattle.std.specs.List.{range_with_len}
+use Rattle.std.specs.List.Sorted.{IsPermutation}
 use Rattle.std.proofs.lemmas.List.Sums.{get_or-le-sum_by}
 use Rattle.atomic_table.specs.Table.{Me, Final, Seen}
 use Rattle.claims.specs.declared.rule.SeatView.{SeatView}
@@ -9,8 +11,9 @@ use Rattle.claims.specs.declared.rule.Setup.{Setup}
 use Rattle.claims.specs.Divided.{Divides, claimed_once}
 use Rattle.claims.specs.Gathering.{HasGathered}
 use Rattle.claims.specs.Places.{holders_of}
-use Rattle.claims.specs.Tokens.{SeatValue, draws_of, holders_in, misses_in}
+use Rattle.claims.specs.Tokens.{SeatValue, draws_of, holders_in, misses_in, places_in}
 use Rattle.claims.specs.Views.{draws_in, misses_of}
+use Rattle.claims.proofs.LawPermutation.{all_places}
 use Rattle.claims.proofs.LawTotals.{total-alone}
 
 -- the counter is at the word, and the seats made all draws
@@ -68,3 +71,8 @@ ends_covered setup seats word ends (place, seat, lt, is, spent) =
     let own : misses (get_or seats place seat) ≤ sum_by misses seats = get_or-le-sum_by misses seats place seat lt in
     let one = one_miss seat.spent spent in
     omega (arith, ends.missed (omega (arith, ap misses is)))
+
+-- the places of all claims are those below it
+pub ends_places : (setup : Setup) (seats : List SeatValue) (word : ℕ) → EndsAt setup seats word
+    → IsPermutation (range_with_len 0 (min word setup.len)) (places_in seats)
+ends_places setup seats word ends = all_places setup seats word ends.once

@@ -9,7 +9,7 @@ use Rattle.claims.specs.declared.seat.ClaimSeat.TheInside as seat
 use Rattle.claims.specs.Divided.{Divides}
 use Rattle.claims.specs.Modeled.{IsWhole}
 use Rattle.claims.specs.Moves.{DrawTells, view_after_draw}
-use Rattle.claims.specs.Places.{claim_at, end_of}
+use Rattle.claims.specs.Places.{claim_at, EndsLone}
 use Rattle.claims.specs.Views.{worker_view, draws_in}
 use Rattle.claims.proofs.KeepsDraw.{draw_allows, after_found}
 use Rattle.claims.proofs.LawPlaces.{end_of-more}
@@ -28,11 +28,7 @@ pub worker_is : (inside : seat.Inside) (setup : Setup) (spent : Option ℕ) → 
 worker_is inside setup spent whole is unspent =
     whole.one ∙ (λ i. (worker_view (is i) inside.seat.me.0.claims (unspent i), []))
 
--- a lone worker's claims end where its draws say
-abbrev pub EndsLone : Setup → List Claim → Type 0
-EndsLone setup claims = setup.seats ≡ 1 → end_of claims ≡ min (setup.chunk * length claims) setup.len
-
--- so they do with one claim more
+-- a lone seat's claims end where its draws say with one claim more too
 lone_more : (setup : Setup) (claims : List Claim) (place : ℕ) → place < setup.len
     → (setup.seats ≡ 1 → place ≡ setup.chunk * length claims) → EndsLone setup (claims ++ claim_at setup place ∷ [])
 lone_more setup claims place lt alone one =

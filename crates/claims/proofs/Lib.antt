@@ -5,4 +5,5 @@ pub mod KeepsSeats
 pub mod LawDealing
 pub mod LawGathering
 pub mod LawTakes
+pub mod LawPermutation
 pub mod LawEnds

@@ -1,9 +1,9 @@
 -- What contracts see of the fields of a counter and a seat, and what holds of these fields.
-use Rattle.std.specs.Prelude.{◌≡◌, ◌*◌, [], length, min}
+use Rattle.std.specs.Prelude.{◌≡◌, []}
 use Rattle.claims.specs.declared.counter.Claims.TheInside as counter
 use Rattle.claims.specs.declared.seat.ClaimSeat.TheInside as seat
 use Rattle.claims.specs.Divided.{IsSetup}
-use Rattle.claims.specs.Places.{end_of}
+use Rattle.claims.specs.Places.{EndsLone}
 use Rattle.claims.specs.Tokens.{ClaimsValue, SeatValue}
 use Rattle.claims.specs.Views.{worker_view}
 
@@ -31,5 +31,4 @@ seat_value inside = record {
 pub record IsWhole (inside : seat.Inside) : Type 0 where
   pub one : inside.seat.me
       ≡ (worker_view inside.seat.me.0.setup inside.seat.me.0.claims inside.spent, [])
-  pub lone : inside.seat.me.0.setup.seats ≡ 1 → end_of inside.seat.me.0.claims
-      ≡ min (inside.seat.me.0.setup.chunk * length inside.seat.me.0.claims) inside.seat.me.0.setup.len
+  pub lone : EndsLone inside.seat.me.0.setup inside.seat.me.0.claims

@@ -12,7 +12,7 @@ view_after_draw place view =
     then record view { claims = view.claims ++ claim_at view.setup place ∷ [] }
     else record view { misses = view.misses ++ place ∷ [] }
 
--- the counter is a chunk further for each draw of the seat at least, and of a lone seat for no other
+-- the counter is a chunk further for each draw of the seat, and of a lone seat for no other
 pub record DrawTells (step : Step ℕ) (before : Me ℕ SeatView) (place : ℕ) (after : Me ℕ SeatView)
     : Type 0 where
   pub seat : after ≡ (view_after_draw place before.0, before.1)

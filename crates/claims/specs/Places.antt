@@ -1,5 +1,5 @@
 -- Which places claims have.
-use Rattle.std.specs.Prelude.{ℕ, ◌+◌, ◌-◌, Bool, ◌&&◌, nat_le, nat_lt, List, min, fold, count_by}
+use Rattle.std.specs.Prelude.{◌≡◌, ℕ, ◌+◌, ◌-◌, ◌*◌, Bool, ◌&&◌, nat_le, nat_lt, List, length, min, fold, count_by}
 use Rattle.std.specs.List.{range_with_len}
 use Rattle.claims.specs.declared.claim.Claim.{Claim}
 use Rattle.claims.specs.declared.rule.Setup.{Setup}
@@ -23,3 +23,8 @@ end_of claims = fold (λ _ claim. claim.to) 0 claims
 -- the claim of a draw that found the place: a chunk from it on, cut at the length
 abbrev pub claim_at : Setup → ℕ → Claim
 claim_at setup place = record { from = place; to = min (place + setup.chunk) setup.len }
+
+-- where there is one seat, its claims end where its draws say
+abbrev pub EndsLone : Setup → List Claim → Type 0
+EndsLone setup claims =
+    setup.seats ≡ 1 → end_of claims ≡ min (setup.chunk * length claims) setup.len

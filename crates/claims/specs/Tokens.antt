@@ -1,9 +1,9 @@
 -- A counter and its seats as contracts see them.
-use Rattle.std.specs.Prelude.{◌≡◌, ℕ, ◌+◌, ◌*◌, ◌<◌, ◌≤◌, List, [], ◌∷◌, ◌++◌, length, min, All, Option, Some, None, MatchOption, IsSome, sum_by}
+use Rattle.std.specs.Prelude.{◌≡◌, ℕ, ◌+◌, ◌*◌, ◌<◌, ◌≤◌, List, [], ◌∷◌, ◌++◌, length, min, All, Option, Some, None, MatchOption, IsSome, sum_by, flat_map}
 use Rattle.atomic_table.specs.Seated.{TableId}
 use Rattle.claims.specs.declared.claim.Claim.{Claim}
 use Rattle.claims.specs.declared.rule.Setup.{Setup}
-use Rattle.claims.specs.Places.{holders_of, end_of}
+use Rattle.claims.specs.Places.{holders_of, places_of, end_of}
 use Rattle.claims.specs.Views.{misses_of}
 
 -- a counter: which table it is, and what it divides
@@ -11,8 +11,8 @@ pub record ClaimsValue : Type 0 where
   pub table : TableId
   pub setup : Setup
 
--- a seat: whose counter it is of, its claims in the order in which it took them, and the place at or
--- past the length that its draw found where it is spent
+-- a seat: whose counter it is of, its claims in the order in which it took them, and where it is
+-- spent the place at or past the length that its last draw found
 pub record SeatValue : Type 0 where
   pub table : TableId
   pub setup : Setup
@@ -50,6 +50,10 @@ misses_in seats = sum_by (λ seat. length (misses_of seat.spent)) seats
 abbrev pub holders_in : ℕ → List SeatValue → ℕ
 holders_in place seats = sum_by (λ seat. holders_of place seat.claims) seats
 
+-- the places of all claims of the seats, seat by seat
+abbrev pub places_in : List SeatValue → List ℕ
+places_in seats = flat_map (λ seat. flat_map places_of seat.claims) seats
+
 -- The seat, which wasn't spent, drew the claim's first place, and has the claim behind its others.
 -- With one seat it begins where the one before ended.
 pub record IsNext (old : SeatValue) (claim : Claim) (new : SeatValue) : Type 0 where
@@ -67,6 +71,8 @@ pub record IsNext (old : SeatValue) (claim : Claim) (new : SeatValue) : Type 0 w
 pub record Misses (old new : SeatValue) : Type 0 where
   pub place : ℕ
   pub past : old.setup.len ≤ place
+  pub ahead : old.setup.chunk * length old.claims ≤ place
+  pub lone : old.setup.seats ≡ 1 → place ≡ old.setup.chunk * length old.claims
   pub seat : new ≡ record old { spent = Some place }
 
 -- The seat was spent, and is as it was, or its draw missed. It is spent, and has no claim more.

@@ -1,6 +1,8 @@
-ghost use Rattle.std.specs.Prelude.{◌≡◌, ℕ, ◌*◌, ◌<◌, ◌≤◌, min, All, Any, IfOk, IfSome, IfNone, IsSome, ◌≢◌, OnOk, [], map, replicate};
+ghost use Rattle.std.specs.Prelude.{◌≡◌, ℕ, ◌*◌, ◌<◌, ◌≤◌, min, All, Any, IfOk, IfSome, IfNone, IsSome, ◌≢◌, OnOk, [], replicate};
+ghost use Rattle.std.specs.List.{range_with_len};
+ghost use Rattle.std.specs.List.Sorted.{IsPermutation};
 ghost use Rattle.claims.specs.declared.rule.TheConstants.{MAX_LEN, MAX_CHUNK, MAX_SEATS};
-ghost use Rattle.claims.specs.Tokens.{holders_in, draws_of, IsSeatOf, AreAllSeats, IsNext, AnswersNone, fresh_seat};
+ghost use Rattle.claims.specs.Tokens.{holders_in, places_in, draws_of, IsSeatOf, AreAllSeats, IsNext, AnswersNone, fresh_seat};
 ghost use Rattle.claims.specs.Gathering.{HasAllParts, HasGathered};
 
 use crate::rule::{CounterSeat, CounterTable};
@@ -62,7 +64,8 @@ impl Claims {
     fn deal(&self, mut seat: CounterSeat, dealt: &mut Vec<ClaimSeat>) -> Result<(), NoMemory>
         requires seat { HasAllParts self.now seat.table_id seat.me }
         requires empty { dealt.old.items ≡ [] }
-        ensures { OnOk result (dealt.new.items ≡ replicate self.now.setup.seats (fresh_seat self.now)) }
+        ensures { OnOk result
+            (dealt.new.items ≡ replicate self.now.setup.seats (fresh_seat self.now)) }
     {
         for _ in 0..self.setup.seats {
             let cut = self.table.shared.split_seat::<plays::CutSeat>(&mut seat);
@@ -74,8 +77,8 @@ impl Claims {
         Ok(())
     }
 
-    /// The next claim of all seats, by one draw. None where this seat was answered None before, and
-    /// then without a draw, or where the draw finds a place at or past the length. Other threads may
+    /// The next claim, by one draw. It is None where this seat was answered None before, and then
+    /// without a draw, or where the draw finds a place at or past the length. Other threads may
     /// take meanwhile.
     pub fn take(&self, seat: &mut ClaimSeat) -> Option<Claim>
         requires seat { IsSeatOf self.now seat.old }
@@ -100,14 +103,15 @@ impl Claims {
         }
     }
 
-    /// The place that the counter reached, at most the length: the seats' claims have each place
-    /// below it once, and no other. The seats must be all of these claims, each once. A seat is
-    /// spent only where all places were claimed.
+    /// The place that the counter reached, at most the length. Each place below it is in one claim
+    /// of the seats, and no other place is in any. Where a seat was answered None, that is the
+    /// length. The seats must be all of this counter.
     pub fn finish(self, seats: Vec<ClaimSeat>) -> u64
         requires seats { AreAllSeats self seats.items }
         ensures answer { result ≡ min (self.setup.chunk * draws_of seats.items) self.setup.len }
         ensures claimed { (place : ℕ) → place < result → holders_in place seats.items ≡ 1 }
         ensures free { (place : ℕ) → result ≤ place → holders_in place seats.items ≡ 0 }
+        ensures places { IsPermutation (range_with_len 0 result) (places_in seats.items) }
         ensures covered { Any (λ seat. IsSome seat.spent) seats.items → result ≡ self.setup.len }
     {
         let Claims { table, setup } = self;

@@ -19,7 +19,8 @@ mod seat;
 pub use claim::Claim;
 pub use counter::Claims;
 pub use no_memory::NoMemory;
-pub use rule::{MAX_CHUNK, MAX_LEN, MAX_SEATS, Setup};
+use rule::Setup;
+pub use rule::{MAX_CHUNK, MAX_LEN, MAX_SEATS};
 pub use seat::ClaimSeat;
 
 #[cfg(test)]

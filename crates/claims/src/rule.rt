@@ -14,7 +14,7 @@ pub const MAX_CHUNK: u64 = 1 << 20;
 pub const MAX_SEATS: u32 = 64;
 
 /// What is divided, and how. It never changes.
-#[derive(Clone, Copy, Debug, PartialEq, Eq)]
+#[derive(Clone, Copy)]
 pub struct Setup {
     /// The number of places.
     pub len: u64,

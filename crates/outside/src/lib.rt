@@ -1,15 +1,16 @@
 //! What the programs ask of the world outside: bytes to read, a place for bytes to go, and a gate.
 //!
 //! *Inputs* are named files that are read in order. A *sink* takes bytes. Both count their
-//! *faults*, and a call answers `Failed` only where that count rose; it stands still at its
-//! greatest value, and a count that stands there is taken as risen. An object *tells* its bytes
-//! where its contract names them; those in memory do, the real ones don't. A *gate* is called
+//! *faults*: a call that answers `Failed` counts one, any other none, and the count stands still at
+//! its greatest value. An object *tells* its bytes where its contract names them; those in memory
+//! do, the real ones don't. A *gate* is called
 //! beside each call that a worker makes. `write_whole` appends exactly the bytes that it is given,
 //! which is the crate's promise. The smallest use is the test `writes_in_pieces`.
 #![tactic(auto)]
 
 mod count_sink;
 mod failed;
+mod faults;
 mod gate;
 mod inputs;
 mod memory_inputs;

@@ -1,11 +1,10 @@
 ghost use Rattle.std.specs.Prelude.{◌≡◌, ◌<◌, ◌≤◌, not, false, IfOk, IsTrue, Some, []};
-ghost use Rattle.std.specs.Io.{ReadsAtMost};
-ghost use Rattle.std.specs.Io.KnownBytes.{ReadConsumes};
-ghost use Rattle.outside.specs.Faults.{HasCause};
-ghost use Rattle.outside.specs.Files.{Starts, files_of, has_file, names_differ};
+ghost use Rattle.outside.specs.Calls.{ReadsFront, StartsFile};
+ghost use Rattle.outside.specs.Files.{files_of, has_file, names_differ};
 ghost use Rattle.outside.specs.Script.{Called, FailsAsListed};
 
-use crate::reading::{Reading, content_of, place_of, read_on};
+use crate::faults::fail;
+use crate::reading::{Reading, bytes_at, place_of, read_on};
 use crate::script::is_refused;
 use crate::{Failed, Inputs};
 use std::marker::Model;
@@ -74,47 +73,38 @@ impl Inputs for MemInputs {
     ghost left = { λ m. Some m.left };
 
     fn start(&mut self, name: &str) -> Result<(), Failed>
-        ensures files { self.new.files ≡ self.old.files }
-        ensures left { Starts (Some self.old.files) (Some self.old.left) (Some self.new.left)
-            name.now result }
-        ensures cause { HasCause self.old.faults self.new.faults result }
+        ensures start { StartsFile (Some self.old.files) (Some self.new.files) (Some self.old.left)
+            (Some self.new.left) self.old.faults self.new.faults name.now result }
         ensures fails { FailsAsListed self.old (not (has_file self.old.files name.now)) result }
         ensures called { Called self.old self.new }
     {
         self.reading = None;
         if is_refused(&self.fails, &mut self.calls) {
-            self.faults = self.faults.saturating_add(1);
-            return Err(Failed);
+            return Err(fail(&mut self.faults));
         }
         match place_of(&self.files, name) {
             Some(place) => {
                 self.reading = Some(Reading { place, offset: 0 });
                 Ok(())
             }
-            None => {
-                self.faults = self.faults.saturating_add(1);
-                Err(Failed)
-            }
+            None => Err(fail(&mut self.faults)),
         }
     }
 
     fn read(&mut self, buf: &mut [u8]) -> Result<usize, Failed>
-        ensures bound { ReadsAtMost result buf.new }
-        ensures files { self.new.files ≡ self.old.files }
-        ensures left { ReadConsumes (Some self.old.left) (Some self.new.left) result buf.new }
-        ensures cause { HasCause self.old.faults self.new.faults result }
+        ensures read { ReadsFront (Some self.old.files) (Some self.new.files) (Some self.old.left)
+            (Some self.new.left) self.old.faults self.new.faults result buf.new }
         ensures fails { FailsAsListed self.old false result }
         ensures piece { IfOk result (λ n. n ≤ self.old.piece) }
         ensures called { Called self.old self.new }
     {
         if is_refused(&self.fails, &mut self.calls) {
-            self.faults = self.faults.saturating_add(1);
-            return Err(Failed);
+            return Err(fail(&mut self.faults));
         }
         let Some(mut reading) = self.reading else {
             return Ok(0);
         };
-        let content = content_of(&self.files, reading.place);
+        let content = bytes_at(&self.files, reading.place);
         let count = read_on(content, &mut reading.offset, buf, self.piece);
         self.reading = Some(reading);
         Ok(count)

@@ -1,9 +1,8 @@
-ghost use Rattle.std.specs.Prelude.{◌≡◌, ◌<◌, ◌≤◌, length, vec_len, IfOk, Some, []};
-ghost use Rattle.std.specs.Io.KnownBytes.{WriteAppends};
-ghost use Rattle.outside.specs.Faults.{HasCause};
+ghost use Rattle.std.specs.Prelude.{◌≡◌, ◌+◌, ◌<◌, ◌≤◌, length, vec_len, IfOk, Some, []};
+ghost use Rattle.outside.specs.Calls.{TakesPiece};
 ghost use Rattle.outside.specs.Script.{SinkFails, SinkCalled};
-ghost use Rattle.outside.specs.Taken.{TakesSome};
 
+use crate::faults::fail;
 use crate::script::{append_front, is_refused};
 use crate::{Failed, Sink};
 use std::marker::Model;
@@ -76,18 +75,16 @@ impl Sink for MemSink {
     ghost written = { λ s. Some s.written };
 
     fn write(&mut self, piece: &[u8]) -> Result<usize, Failed>
-        ensures bound { TakesSome piece.now result }
-        ensures written { WriteAppends (Some self.old.written) (Some self.new.written)
-            result piece.now }
-        ensures cause { HasCause self.old.faults self.new.faults result }
+        ensures write { TakesPiece (Some self.old.written) (Some self.new.written)
+            self.old.faults self.new.faults piece.now result }
         ensures fails { SinkFails self.old piece.now result }
         ensures piece { IfOk result (λ n. n ≤ self.old.piece) }
+        ensures room { IfOk result (λ n. length self.old.written + n ≤ self.old.room) }
         ensures called { SinkCalled self.old self.new }
     {
         let is_full = self.used == self.space.len() && !piece.is_empty();
         if is_refused(&self.fails, &mut self.calls) || is_full {
-            self.faults = self.faults.saturating_add(1);
-            return Err(Failed);
+            return Err(fail(&mut self.faults));
         }
         let count = append_front(piece, &mut self.space, self.used, self.piece);
         self.used += count;

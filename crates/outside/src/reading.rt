@@ -24,7 +24,7 @@ pub(crate) fn place_of(files: &[(String, Vec<u8>)], name: &str) -> Option<usize>
 }
 
 /// The bytes of the file at this place.
-pub(crate) fn content_of(files: &[(String, Vec<u8>)], place: usize) -> &[u8]
+pub(crate) fn bytes_at(files: &[(String, Vec<u8>)], place: usize) -> &[u8]
     ensures { result.now ≡ content_at files.now place }
 {
     match files.get(place) {

@@ -1,12 +1,14 @@
-ghost use Rattle.std.specs.Prelude.{◌≡◌, IfSome, IsSome, None, Ok, OnErr, OnOk};
+ghost use Rattle.std.specs.Prelude.{◌≡◌, IsSome, None, OnErr, OnOk};
 ghost use Rattle.std.specs.Io.{ReadsAtMost};
-ghost use Rattle.std.specs.Io.KnownBytes.{ReadConsumes};
+ghost use Rattle.outside.specs.Calls.{HandsOn, ReadsStarted, TakesPiece};
 ghost use Rattle.outside.specs.Faults.{HasCause};
+ghost use Rattle.outside.specs.Taken.{TakesSome};
 
+use crate::faults::fail;
 use crate::{Failed, Inputs, Sink};
-use std::fs;
-use std::io::{Read, Write};
+use std::io::{ErrorKind, Read, Write};
 use std::rt::Files;
+use std::{fs, io};
 
 /// Inputs over the files of the system. They tell nothing of what the files hold.
 #[derive(Drop)]
@@ -47,30 +49,22 @@ impl<R: Files + Drop> Inputs for RealInputs<R> {
                 self.started = Some(file);
                 Ok(())
             }
-            Err(_) => {
-                self.faults = self.faults.saturating_add(1);
-                Err(Failed)
-            }
+            Err(_) => Err(fail(&mut self.faults)),
         }
     }
 
     fn read(&mut self, buf: &mut [u8]) -> Result<usize, Failed>
         ensures bound { ReadsAtMost result buf.new }
         ensures cause { HasCause self.old.faults self.new.faults result }
-        ensures closed { self.old.started ≡ None → result ≡ Ok 0 }
-        ensures bytes { IfSome self.old.started (λ before. IfSome self.new.started (λ after.
-            ReadConsumes (⟦<R::File as Read>⟧.remaining before)
-            (⟦<R::File as Read>⟧.remaining after) result buf.new)) }
+        ensures started { ReadsStarted ⟦<R::File as Read>⟧.remaining self.old.started
+            self.new.started result buf.new }
     {
         let Some(file) = &mut self.started else {
             return Ok(0);
         };
         match file.read(buf) {
             Ok(count) => Ok(count),
-            Err(_) => {
-                self.faults = self.faults.saturating_add(1);
-                Err(Failed)
-            }
+            Err(_) => Err(fail(&mut self.faults)),
         }
     }
 }
@@ -96,14 +90,28 @@ impl<W: Write> Sink for RealSink<W> {
 
     ghost written = { λ _. None };
 
-    fn write(&mut self, piece: &[u8]) -> Result<usize, Failed> {
-        if let Ok(count) = self.writer.write(piece) {
-            // A writer that takes nothing of something would be asked for ever.
-            if (count > 0 || piece.is_empty()) && self.writer.flush().is_ok() {
-                return Ok(count);
-            }
+    fn write(&mut self, piece: &[u8]) -> Result<usize, Failed>
+        ensures write { TakesPiece None None self.old.faults self.new.faults piece.now result }
+        ensures writer { HandsOn (W.contents self.old.writer) (W.contents self.new.writer)
+            piece.now result }
+    {
+        match hand_on(&mut self.writer, piece) {
+            Ok(count) => Ok(count),
+            Err(_) => Err(fail(&mut self.faults)),
         }
-        self.faults = self.faults.saturating_add(1);
-        Err(Failed)
     }
+}
+
+// Writes the piece, and flushes what was taken. A writer that takes nothing of something fails: it
+// would be asked for ever.
+fn hand_on<W: Write>(writer: &mut W, piece: &[u8]) -> io::Result<usize>
+    ensures taken { TakesSome piece.now result }
+    ensures bytes { HandsOn (W.contents writer.old) (W.contents writer.new) piece.now result }
+{
+    let count = writer.write(piece)?;
+    if count == 0 && !piece.is_empty() {
+        return Err(ErrorKind::WriteZero.into());
+    }
+    writer.flush()?;
+    Ok(count)
 }

@@ -1,6 +1,9 @@
 // What inputs and sinks in memory share: calls that shall fail, and how many bytes a call moves.
 ghost use Rattle.std.specs.Prelude.{◌≡◌, ◌+◌, ◌<◌, ◌≤◌, ◌++◌, length, take};
-ghost use Rattle.outside.specs.Script.{is_listed, one_more};
+ghost use Rattle.outside.specs.Faults.{one_more};
+ghost use Rattle.outside.specs.Script.{is_listed};
+
+use crate::faults::one_more;
 
 /// Counts the call, and says whether it shall fail.
 pub(crate) fn is_refused(fails: &[u64], calls: &mut u64) -> bool
@@ -8,7 +11,7 @@ pub(crate) fn is_refused(fails: &[u64], calls: &mut u64) -> bool
     ensures counted { calls.new ≡ one_more calls.old }
 {
     let refused = fails.contains(calls);
-    *calls = calls.saturating_add(1);
+    *calls = one_more(*calls);
     refused
 }
 

@@ -1,7 +1,5 @@
 ghost use Rattle.std.specs.Prelude.{ℕ, List, Option};
-ghost use Rattle.std.specs.Io.KnownBytes.{WriteAppends};
-ghost use Rattle.outside.specs.Faults.{HasCause};
-ghost use Rattle.outside.specs.Taken.{TakesSome};
+ghost use Rattle.outside.specs.Calls.{TakesPiece};
 
 use crate::Failed;
 
@@ -16,7 +14,6 @@ pub trait Sink {
     /// Takes bytes from the front of the piece and gives their number, at least 1 where the piece
     /// isn't empty. After `Failed` none of them was taken.
     fn write(&mut self, piece: &[u8]) -> Result<usize, Failed>
-        ensures bound { TakesSome piece.now result }
-        ensures written { WriteAppends (written self.old) (written self.new) result piece.now }
-        ensures cause { HasCause (faults self.old) (faults self.new) result };
+        ensures { TakesPiece (written self.old) (written self.new) (faults self.old)
+            (faults self.new) piece.now result };
 }

@@ -1,10 +1,8 @@
 ghost use Rattle.std.specs.Prelude.{◌≡◌, IsOk, IsTrue, Some, []};
-ghost use Rattle.std.specs.Io.{ReadsAtMost};
-ghost use Rattle.std.specs.Io.KnownBytes.{ReadConsumes};
-ghost use Rattle.outside.specs.Faults.{HasCause};
-ghost use Rattle.outside.specs.Files.{Starts, files_of, names_differ};
+ghost use Rattle.outside.specs.Calls.{ReadsFront, StartsFile};
+ghost use Rattle.outside.specs.Files.{files_of, names_differ};
 
-use crate::reading::{Reading, content_of, place_of, read_on};
+use crate::reading::{Reading, bytes_at, place_of, read_on};
 use crate::{Failed, Inputs};
 use std::marker::Model;
 
@@ -48,10 +46,8 @@ impl Inputs for SteadyInputs {
     ghost left = { λ s. Some s.left };
 
     fn start(&mut self, name: &str) -> Result<(), Failed>
-        ensures files { self.new.files ≡ self.old.files }
-        ensures left { Starts (Some self.old.files) (Some self.old.left) (Some self.new.left)
-            name.now result }
-        ensures cause { HasCause 0 0 result }
+        ensures start { StartsFile (Some self.old.files) (Some self.new.files) (Some self.old.left)
+            (Some self.new.left) 0 0 name.now result }
         ensures never { IsOk result }
     {
         match place_of(&self.files, name) {
@@ -62,16 +58,14 @@ impl Inputs for SteadyInputs {
     }
 
     fn read(&mut self, buf: &mut [u8]) -> Result<usize, Failed>
-        ensures bound { ReadsAtMost result buf.new }
-        ensures files { self.new.files ≡ self.old.files }
-        ensures left { ReadConsumes (Some self.old.left) (Some self.new.left) result buf.new }
-        ensures cause { HasCause 0 0 result }
+        ensures read { ReadsFront (Some self.old.files) (Some self.new.files) (Some self.old.left)
+            (Some self.new.left) 0 0 result buf.new }
         ensures never { IsOk result }
     {
         let Some(mut reading) = self.reading else {
             return Ok(0);
         };
-        let content = content_of(&self.files, reading.place);
+        let content = bytes_at(&self.files, reading.place);
         let count = read_on(content, &mut reading.offset, buf, usize::MAX);
         self.reading = Some(reading);
         Ok(count)

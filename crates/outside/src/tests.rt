@@ -1,5 +1,8 @@
+// What the clauses leave open of inputs, sinks and gates.
 ghost use Rattle.std.specs.Prelude.{IfOk, IsTrue};
 ghost use Rattle.outside.specs.Files.{files_of, names_differ};
+
+mod system;
 
 use super::*;
 use std::alloc::Global;

@@ -1,4 +1,4 @@
-use Rattle.std.proofs.Common.{◌-◌, List, ℕ, length, take, drop, subst, arith}
+use Rattle.std.proofs.Common.{◌-◌, List, ℕ, length, take, drop, subst, ◌∙◌}
 use Rattle.std.specs.Io.KnownBytes.{Appends}
 use Rattle.std.proofs.KnownBytes.{Appends-trans}
 use Rattle.outside.proofs.LawPieces.{take-add_range}
@@ -19,5 +19,5 @@ loop-taken-preserved g c =
     record {
       within = front.0;
       appended = subst (λ (l : List ℕ). Appends (written c.args.out.now) (written c.write.new.self) l) front.1 both;
-      later = omega (arith, before.later, write.cause.later);
+      kept = write.cause.kept ∙ before.kept;
     }

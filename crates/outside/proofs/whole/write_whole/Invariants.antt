@@ -1,8 +1,8 @@
-use Rattle.std.proofs.Common.{length, ◌-◌, ◌≤◌, take}
+use Rattle.std.proofs.Common.{◌≡◌, length, ◌-◌, ◌≤◌, take}
 use Rattle.std.specs.Io.KnownBytes.{Appends}
 use Rattle.outside.proofs.whole.write_whole.Given as goal
 
--- the front of the bytes was appended, and no count was lowered
+-- the front of the bytes was appended, and no fault was counted
 abbrev pub invariant-loop-taken : goal.invariant-loop-taken
 invariant-loop-taken g l =
     let written = g.O.Sink.written in
@@ -10,7 +10,7 @@ invariant-loop-taken g l =
     record {
       within : l.taken ≤ length l.bytes;
       appended : Appends (written l.fn.out) (written l.out) (take l.taken l.bytes);
-      later : faults l.fn.out ≤ faults l.out;
+      kept : faults l.out ≡ faults l.fn.out;
     }
 
 abbrev pub decreases-loop-taken : goal.decreases-loop-taken

@@ -1,7 +1,7 @@
 use Rattle.std.proofs.Common.{ap, sym, ◌∙◌, String, Vec, ℕ}
 use Rattle.std.specs.declared.alloc.Global.{Global}
 use Rattle.outside.proofs.LawFiles.{content_at-get, content_at-past}
-use Rattle.outside.proofs.reading.content_of.Goals as goal
+use Rattle.outside.proofs.reading.bytes_at.Goals as goal
 
 -- the place is that of a file
 pub returns-in-Some : goal.returns-in-Some

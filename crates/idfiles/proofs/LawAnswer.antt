@@ -1,17 +1,17 @@
 -- The answer for a file, from what reading its bytes gives.
-use Rattle.std.proofs.Common.{◌≡◌, ℕ, List, [], ◌++◌, take, refl, sym, ap, ◌∙◌, subst, append-nil, Option, None, Some, IfSome, Ok, Err, Vec}
-use Rattle.std.specs.Io.KnownBytes.{Consumes, IsAtEnd}
+use Rattle.std.proofs.Common.{◌≡◌, ℕ, List, [], ◌∷◌, ◌++◌, take, refl, sym, ap, ◌∙◌, subst, append-nil, length, ◌≤◌, arith, Option, None, Some, IfSome, Ok, Err, Vec}
+use Rattle.std.specs.Io.KnownBytes.{Consumes, IsAtEnd, Keeps}
 use Rattle.std.proofs.KnownBytes.{Consumes-trans}
 use Rattle.std.specs.declared.alloc.Global.{Global}
-use Rattle.idfiles.specs.Answer.{Answers, AnswersTold}
-use Rattle.idfiles.specs.Lines.{first_fault}
+use Rattle.idfiles.specs.Answer.{Answers, AnswersTold, IsFineBefore}
+use Rattle.idfiles.specs.Lines.{ended_from, first_fault, line_fault}
 use Rattle.idfiles.specs.Scan.{Read, Fails, ended, scanned_within}
 use Rattle.idfiles.specs.declared.fault.TheConstants.{MAX_BYTES}
 use Rattle.idfiles.specs.declared.scan.Scan.{Scan}
 use Rattle.idfiles.specs.declared.id_record.IdRecord.{IdRecord}
 use Rattle.idfiles.specs.declared.fault.IdFault.{IdFault}
 use Rattle.idfiles.specs.declared.fault.IdFault.TheVariants.{NoMemory, BadLine, ReadFault, TooLong, TooMany}
-use Rattle.idfiles.proofs.LoopRead.{HasRead, EndsAs, ends, refuses_piece}
+use Rattle.idfiles.proofs.LoopRead.{HasRead, EndsAs, ends, reads_on, refuses_piece}
 
 -- the bytes that are told, or none
 some_bytes : (told : Option (List ℕ)) → (bytes : List ℕ) × IfSome told (λ all. bytes ≡ all)
@@ -39,28 +39,57 @@ nothing_more told mid rest bytes buffer count none first then_on =
     subst (Consumes told rest) (append-nil bytes) (Consumes-trans told mid rest bytes [] first no)
 
 -- a refusal that says nothing of the bytes
-pub no_memory : (file room : ℕ) (told : Option (List ℕ)) → AnswersTold file room told (Err NoMemory)
-no_memory file room told = let bytes = some_bytes told in (bytes.0, bytes.1, tt)
+pub no_memory : (file room : ℕ) (told left : Option (List ℕ)) → AnswersTold file room told left (Err NoMemory)
+no_memory file room told left = let bytes = some_bytes told in (bytes.0, bytes.1, tt)
 
--- a read fault says nothing of them either
-pub read_fault : (file room : ℕ) (told : Option (List ℕ)) → AnswersTold file room told (Err (ReadFault file))
-read_fault file room told = let bytes = some_bytes told in (bytes.0, bytes.1, refl)
+-- a failed start leaves nothing to be read
+pub no_start : (file room : ℕ) (told left : Option (List ℕ)) → IsAtEnd left → AnswersTold file room told left (Err (ReadFault file))
+no_start file room told None end = let bytes = some_bytes told in (bytes.0, bytes.1, (refl, tt))
+no_start file room told (Some []) end = let bytes = some_bytes told in (bytes.0, bytes.1, (refl, tt))
+no_start file room told (Some (b ∷ rest)) end = cc
+
+-- all bytes, where a front of them was taken and the read behind it failed
+all_with : (told mid left : Option (List ℕ)) (bytes : List ℕ) → Consumes told mid bytes → Keeps mid left
+    → (all : List ℕ) × IfSome told (λ xs. all ≡ xs) × IfSome left (λ rest. all ≡ bytes ++ rest)
+all_with None mid None bytes taken kept = ([], tt, tt)
+all_with None mid (Some rest) bytes taken kept = (bytes ++ rest, tt, refl)
+all_with (Some xs) None left bytes taken kept = absurd taken
+all_with (Some xs) (Some ys) None bytes taken kept = absurd kept
+all_with (Some xs) (Some ys) (Some rest) bytes taken kept = (xs, refl, taken ∙ ap (λ r. bytes ++ r) (sym kept))
+
+-- the lines that ended in what was read have no fault
+fine_before : (file room left : ℕ) (bytes all : List ℕ) (scan : Scan) (records : List IdRecord) (rest : Option (List ℕ))
+    → HasRead MAX_BYTES file room bytes left scan records → IfSome rest (λ more. all ≡ bytes ++ more) → IsFineBefore file room all rest
+fine_before file room left bytes all scan records None h is = tt
+fine_before file room left bytes all scan records (Some []) h is = tt
+fine_before file room left bytes all scan records (Some (b ∷ rest)) h is =
+    let lines = (reads_on MAX_BYTES file room left bytes scan records h).0 in
+    let size : length bytes ≤ MAX_BYTES = omega (arith, h.size) in
+    (bytes, is, size, ap (line_fault file room 1) (sym (append-nil (ended_from [] bytes))) ∙ lines.fault [])
+
+-- a read failed behind bytes without a fault
+pub read_fault : (file room left : ℕ) (bytes : List ℕ) (told mid rest : Option (List ℕ)) (scan : Scan) (records : List IdRecord)
+    → HasRead MAX_BYTES file room bytes left scan records → Consumes told mid bytes → Keeps mid rest
+    → AnswersTold file room told rest (Err (ReadFault file))
+read_fault file room left bytes told mid rest scan records h taken kept =
+    let all = all_with told mid rest bytes taken kept in
+    (all.0, all.1, (refl, fine_before file room left bytes all.0 scan records rest h all.2))
 
 -- a fault that reading met is the file's first one
-refused : (file room : ℕ) (bytes : List ℕ) (read : Read) (fault : IdFault) → Fails fault read
-    → ((found : IdFault) → read ≡ Err found → first_fault file room bytes ≡ Some found) → Answers file room bytes (Err fault)
-refused file room bytes read NoMemory e first = tt
-refused file room bytes read (BadLine at line) e first = first (BadLine at line) e
-refused file room bytes read (ReadFault at) e first = absurd e
-refused file room bytes read (TooLong at) e first = first (TooLong at) e
-refused file room bytes read TooMany e first = first TooMany e
+refused : (file room : ℕ) (bytes : List ℕ) (left : Option (List ℕ)) (read : Read) (fault : IdFault) → Fails fault read
+    → ((found : IdFault) → read ≡ Err found → first_fault file room bytes ≡ Some found) → Answers file room bytes left (Err fault)
+refused file room bytes left read NoMemory e first = tt
+refused file room bytes left read (BadLine at line) e first = first (BadLine at line) e
+refused file room bytes left read (ReadFault at) e first = absurd e
+refused file room bytes left read (TooLong at) e first = first (TooLong at) e
+refused file room bytes left read TooMany e first = first TooMany e
 
 -- the input ended, and so did its last line
 pub answers_all : (file room left : ℕ) (bytes : List ℕ) (told rest : Option (List ℕ)) (scan now : Scan) (records : List IdRecord)
     (all : Vec IdRecord Global)
     → HasRead MAX_BYTES file room bytes left scan records → Consumes told rest bytes → IsAtEnd rest
     → ended scan records ≡ Ok (now, all.items)
-    → AnswersTold file room told (Ok all)
+    → AnswersTold file room told rest (Ok all)
 unfolding first_fault
 answers_all file room left bytes told rest scan now records all h taken end e = (
   bytes,
@@ -73,12 +102,12 @@ answers_all file room left bytes told rest scan now records all h taken end e = 
 pub answers_last : (file room left : ℕ) (bytes : List ℕ) (told rest : Option (List ℕ)) (scan : Scan) (records : List IdRecord)
     (fault : IdFault)
     → HasRead MAX_BYTES file room bytes left scan records → Consumes told rest bytes → IsAtEnd rest → Fails fault (ended scan records)
-    → AnswersTold file room told (Err fault)
+    → AnswersTold file room told rest (Err fault)
 unfolding first_fault
 answers_last file room left bytes told rest scan records fault h taken end e = (
   bytes,
   all_of told rest bytes taken end,
-  refused file room bytes (ended scan records) fault e (λ found is. subst (EndsAs MAX_BYTES file room bytes) is
+  refused file room bytes rest (ended scan records) fault e (λ found is. subst (EndsAs MAX_BYTES file room bytes) is
       (ends MAX_BYTES file room left bytes scan records h)),
 )
 
@@ -87,12 +116,12 @@ pub answers_piece : (file room left : ℕ) (bytes piece : List ℕ) (told rest :
     (fault : IdFault)
     → HasRead MAX_BYTES file room bytes left scan records → Consumes told rest (bytes ++ piece)
     → Fails fault (scanned_within left scan records piece)
-    → AnswersTold file room told (Err fault)
+    → AnswersTold file room told rest (Err fault)
 unfolding first_fault
 answers_piece file room left bytes piece told rest scan records fault h taken e =
     let front = front_of told rest (bytes ++ piece) taken in (
       (bytes ++ piece) ++ front.0,
       front.1,
-      refused file room ((bytes ++ piece) ++ front.0) (scanned_within left scan records piece) fault e
+      refused file room ((bytes ++ piece) ++ front.0) rest (scanned_within left scan records piece) fault e
           (λ found is. refuses_piece MAX_BYTES file room left bytes piece front.0 scan records found h is),
     )

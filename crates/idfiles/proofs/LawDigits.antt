@@ -8,6 +8,7 @@ use Rattle.std.proofs.lemmas.Str.Parse.{IsNumeralModel, numerals_by_value}
 use Rattle.std.specs.List.{list_all}
 use Rattle.std.specs.Char.{is_ascii_digit, digit_value}
 use Rattle.std.specs.Str.Parse.{digits_value, digits_value_after}
+use Rattle.idfiles.specs.Limits.{safe_digits}
 
 -- the texts of digits, and what they write
 pub numerals : IsNumeralModel (λ ds. list_all is_ascii_digit ds ≡ true) (digits_value 10)
@@ -28,12 +29,12 @@ pub value_after-append : (n : ℕ) (xs ys : List ℕ)
 value_after-append n [] ys = refl
 value_after-append n (x ∷ xs) ys = value_after-append (n * 10 + digit_value x) xs ys
 
--- among 19 digits those before the last leave room for one more
-pub digits_value-safe : (bs : List ℕ) (k i : ℕ) → k ≤ 19 → i < length (take k bs) → list_all is_ascii_digit (take i (take k bs)) ≡ true
+-- among as many digits as are safe those before the last leave room for one more
+pub digits_value-safe : (bs : List ℕ) (k i : ℕ) → k ≤ safe_digits → i < length (take k bs) → list_all is_ascii_digit (take i (take k bs)) ≡ true
     → digits_value 10 (take i (take k bs)) * 10 + 9 < 2 ^ 64
 digits_value-safe bs k i most within digits =
     let front = take i (take k bs) in
-    let few : length (take k bs) ≤ 19 = simp length-take (omega arith) in
+    let few : length (take k bs) ≤ safe_digits = simp length-take (omega arith) in
     let short : length front ≤ 18 = rw length-take (omega arith) in
     let below : digits_value 10 front < 10 ^ length front = digits_value-lt 10 front (numerals.to front digits) in
     let power : 10 ^ length front ≤ 10 ^ 18 = pow-le-pow_right (omega arith) short in

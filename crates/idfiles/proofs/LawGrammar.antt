@@ -5,6 +5,7 @@ use Rattle.std.proofs.lemmas.List.Folds.{list_all-append}
 use Rattle.std.specs.List.{list_all}
 use Rattle.std.specs.Char.{is_ascii_digit}
 use Rattle.std.specs.Str.Parse.{digits_value}
+use Rattle.idfiles.specs.Limits.{most_digits}
 use Rattle.idfiles.specs.Grammar.{cr, is_blank, IsEnding, IsBlankLine, WritesId, IsIdLine}
 use Rattle.idfiles.specs.Lines.{without_cr, behind_blanks, before_blanks, is_id, judged, line_of}
 use Rattle.idfiles.specs.Machine.{IsAfter, after_bytes, at_end}
@@ -154,8 +155,8 @@ reads_id text id h =
     let t = trimmed text in
     let rest = behind_blanks (before_blanks (without_cr text)) in
     let is = judged-id rest id h in
-    let all = both (list_all is_ascii_digit rest && nat_le (length rest) 20) (nat_lt (digits_value 10 rest) (2 ^ 64)) is.1 in
-    let digits = both (list_all is_ascii_digit rest) (nat_le (length rest) 20) all.0 in
+    let all = both (list_all is_ascii_digit rest && nat_le (length rest) most_digits) (nat_lt (digits_value 10 rest) (2 ^ 64)) is.1 in
+    let digits = both (list_all is_ascii_digit rest) (nat_le (length rest) most_digits) all.0 in
     record {
       before = t.before;
       digits = rest;

@@ -4,6 +4,7 @@ use Rattle.std.proofs.lemmas.Bool.Decides.{nat_tests}
 use Rattle.std.proofs.lemmas.Fmt.{decimal_nonempty, length-decimal-le, digits_decimal, digits_value-decimal}
 use Rattle.std.specs.List.{list_all, AllByRecursion}
 use Rattle.std.specs.Str.Parse.{digits_value}
+use Rattle.idfiles.specs.Limits.{most_digits}
 use Rattle.idfiles.specs.Grammar.{lf}
 use Rattle.idfiles.specs.Lines.{line_of, ended_from, unended_from, lines_of, records_from, records_of, line_fault, fault_within}
 use Rattle.idfiles.specs.Grammar.{is_inner}
@@ -38,7 +39,7 @@ line_of-decimal id fits =
     let digits = digits_decimal numerals id fits in
     let value : digits_value 10 ds ≡ id = digits_value-decimal numerals id fits in
     let below : digits_value 10 ds < 2 ^ 64 = omega arith in
-    let state = blank_digits ds (decimal_nonempty id fits) (length-decimal-le 20 id (lit< tt) (omega arith) fits) digits below in
+    let state = blank_digits ds (decimal_nonempty id fits) (length-decimal-le most_digits id (lit< tt) (omega arith) fits) digits below in
     sym (reads ds) ∙ ap at_end state ∙ ap line.Id value
 
 inner-decimal : (id : ℕ) → id < 2 ^ 64 → list_all is_inner (decimal id) ≡ true

@@ -7,6 +7,7 @@ use Rattle.std.proofs.lemmas.Int.Digits.{digits_value_push}
 use Rattle.std.specs.List.{list_all}
 use Rattle.std.specs.Char.{is_ascii_digit, digit_value}
 use Rattle.std.specs.Str.Parse.{digits_value}
+use Rattle.idfiles.specs.Limits.{most_digits}
 use Rattle.idfiles.proofs.LawDigits.{digit_value-ascii, value_after-ge, value_after-append}
 use Rattle.idfiles.specs.Grammar.{cr, is_blank}
 use Rattle.idfiles.specs.Lines.{is_empty, without_cr, behind_blanks, before_blanks, is_id, judged, line_of}
@@ -85,18 +86,18 @@ record AreDigits (ds : List ℕ) (count value : ℕ) : Type 0 where
   digits : list_all is_ascii_digit ds ≡ true
   many : length ds ≡ count
   some : 0 < count
-  short : count ≤ 20
+  short : count ≤ most_digits
   is : digits_value 10 ds ≡ value
   fits : value < 2 ^ 64
 
 judged-digits : (ds : List ℕ) (count value : ℕ) → AreDigits ds count value → judged ds ≡ line.Id value
 judged-digits [] count value h = absurd (omega arith)
 judged-digits (d ∷ ds) count value h =
-    let short : nat_le (length (d ∷ ds)) 20 ≡ true = grind (arith, nat_tests) in
+    let short : nat_le (length (d ∷ ds)) most_digits ≡ true = grind (arith, nat_tests) in
     let fits : nat_lt (digits_value 10 (d ∷ ds)) (2 ^ 64) ≡ true = grind (arith, nat_tests) in
     rw (h.digits, short, fits) (ap line.Id h.is)
 
-more_digits : (ds : List ℕ) (count value b : ℕ) → AreDigits ds count value → is_ascii_digit b ≡ true → count < 20
+more_digits : (ds : List ℕ) (count value b : ℕ) → AreDigits ds count value → is_ascii_digit b ≡ true → count < most_digits
     → value * 10 + (b - 48) < 2 ^ 64 → AreDigits (ds ++ b ∷ []) (count + 1) (value * 10 + (b - 48))
 more_digits ds count value b h ten short fits = record {
   digits = list_all-append is_ascii_digit ds (b ∷ []) ∙ rw (h.digits, ten) refl;

@@ -1,6 +1,7 @@
 pub mod LawAnswer
 pub mod LawDigits
 pub mod LawFile
+pub mod LawFront
 pub mod LawGrammar
 pub mod LawIds
 pub mod LawLine

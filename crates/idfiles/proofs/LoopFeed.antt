@@ -1,10 +1,12 @@
 -- One turn of reading a piece: an LF ends the line, other bytes change its state.
-use Rattle.std.proofs.Common.{◌≡◌, ℕ, ◌+◌, ◌-◌, true, false, ◌==◌, List, [], ◌∷◌, ◌++◌, length, take, drop, refl, sym, ap, ◌∙◌, take-append-drop, length-drop, arith}
+use Rattle.std.proofs.Common.{◌≡◌, ℕ, ◌+◌, ◌-◌, ◌≤◌, true, false, ◌==◌, List, [], ◌∷◌, ◌++◌, length, take, drop, refl, sym, ap, ◌∙◌, take-append-drop, length-drop, add-zero, arith}
 use Rattle.std.proofs.lemmas.Bool.Decides.{nat_tests}
-use Rattle.std.proofs.lemmas.List.{drop-drop, take_all}
+use Rattle.std.proofs.lemmas.List.{drop-drop, length-take-le, take_all}
 use Rattle.std.specs.List.{list_all}
-use Rattle.idfiles.specs.Grammar.{lf}
-use Rattle.idfiles.specs.Grammar.{is_inner}
+use Rattle.idfiles.specs.Grammar.{is_inner, lf}
+use Rattle.idfiles.specs.Kinds.{is_of}
+use Rattle.idfiles.specs.declared.front.ByteKind.TheVariants.{Lf}
+use Rattle.idfiles.specs.declared.line.LineState.TheVariants.{Blank}
 use Rattle.idfiles.specs.Machine.{after_bytes, after_byte}
 use Rattle.idfiles.specs.Scan.{scanned}
 use Rattle.idfiles.specs.declared.scan.Scan.{Scan}
@@ -32,3 +34,29 @@ takes_run scan records bytes rest at n left inner =
 -- what a slice from a place to the end holds
 pub slice_from : (bytes : List ℕ) (at : ℕ) → take (length bytes - at) (drop at bytes) ≡ drop at bytes
 slice_from bytes at = take_all _ _ (omega (arith, length-drop at bytes))
+
+-- LFs where a line has nothing but blanks end it, and the empty lines behind it
+scanned-lfs : (xs : List ℕ) → list_all (is_of Lf) xs ≡ true → (file room line : ℕ) (records : List IdRecord) (ys : List ℕ)
+    → scanned (record { file = file; room = room; line = line; state = Blank }) records (xs ++ ys)
+    ≡ scanned (record { file = file; room = room; line = line + length xs; state = Blank }) records ys
+scanned-lfs [] h file room line records ys = rw add-zero refl
+scanned-lfs (x ∷ xs) h file room line records ys =
+    let parts = both (x == lf) (list_all (is_of Lf) xs) h in
+    let more : line + 1 + length xs ≡ line + length (x ∷ xs) = omega arith in
+    rw parts.0 (
+    scanned-lfs xs parts.1 file room (line + 1) records ys
+    ∙ ap (λ (n : ℕ). scanned (record { file = file; room = room; line = n; state = Blank }) records ys) more
+    )
+
+-- a turn that took n LFs from what is left
+pub takes_lines : (scan : Scan) (records : List IdRecord) (bytes rest : List ℕ) (at n : ℕ) → rest ≡ drop at bytes → n ≤ length rest
+    → scan.state ≡ Blank → list_all (is_of Lf) (take n rest) ≡ true
+    → scanned (record scan { line = scan.line + n }) records (drop (at + n) bytes) ≡ scanned scan records (drop at bytes)
+takes_lines scan records bytes rest at n left within blank lfs =
+    let size : length (take n rest) ≡ n = length-take-le n rest within in
+    rw (← drop-drop n at bytes, ← left, blank) (sym (
+    ap (scanned (record scan { state = Blank }) records) (sym (take-append-drop n rest))
+    ∙ scanned-lfs (take n rest) lfs scan.file scan.room scan.line records (drop n rest)
+    ∙ ap (λ (k : ℕ). scanned (record { file = scan.file; room = scan.room; line = scan.line + k; state = Blank }) records (drop n rest))
+    size
+    ))

@@ -3,6 +3,7 @@ use Rattle.std.specs.Prelude.{◌≡◌, ◌⊎◌, ℕ, ◌^◌, ◌<◌, ◌�
 use Rattle.std.specs.List.{list_all}
 use Rattle.std.specs.Char.{is_ascii_digit}
 use Rattle.std.specs.Str.Parse.{digits_value}
+use Rattle.idfiles.specs.Limits.{most_digits}
 use Rattle.idfiles.specs.declared.line.Line.{Line}
 use Rattle.idfiles.specs.declared.line.Line.TheVariants.{Blank, Id, Bad}
 
@@ -35,7 +36,7 @@ pub record IsBlankLine (text : List ℕ) : Type 0 where
   pub blank : list_all is_blank blanks ≡ true
   pub ends : IsEnding ending
 
--- the line writes the id: 1 to 20 digits, with blanks at both ends
+-- the line writes the id: its digits, with blanks at both ends
 pub record WritesId (text : List ℕ) (id : ℕ) : Type 0 where
   pub before : List ℕ
   pub digits : List ℕ
@@ -44,7 +45,7 @@ pub record WritesId (text : List ℕ) (id : ℕ) : Type 0 where
   pub is : text ≡ before ++ digits ++ after ++ ending
   pub blank_before : list_all is_blank before ≡ true
   pub decimal : list_all is_ascii_digit digits ≡ true
-  pub count : (0 < length digits) × (length digits ≤ 20)
+  pub count : (0 < length digits) × (length digits ≤ most_digits)
   pub value : digits_value 10 digits ≡ id
   pub fits : id < 2 ^ 64
   pub blank_after : list_all is_blank after ≡ true

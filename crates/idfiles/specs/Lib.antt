@@ -1,6 +1,9 @@
 pub mod Answer
 pub mod Fault
 pub mod Grammar
+pub mod Kinds
+pub mod Limits
 pub mod Lines
 pub mod Machine
+pub mod Print
 pub mod Scan

@@ -5,6 +5,7 @@ use Rattle.std.specs.Char.{is_ascii_digit}
 use Rattle.std.specs.Str.Parse.{digits_value}
 use Rattle.std.specs.Option.{option_or}
 use Rattle.idfiles.specs.Grammar.{lf, cr, is_blank}
+use Rattle.idfiles.specs.Limits.{most_bytes, most_digits}
 use Rattle.idfiles.specs.declared.line.Line.{Line}
 use Rattle.idfiles.specs.declared.line.Line.TheVariants.{Blank, Id, Bad}
 use Rattle.idfiles.specs.declared.id_record.IdRecord.{IdRecord}
@@ -32,10 +33,10 @@ before_blanks [] = []
 before_blanks (b ∷ bytes) =
     if is_blank b && is_empty (before_blanks bytes) then [] else b ∷ before_blanks bytes
 
--- 1 to 20 digits, whose value fits 64 bits
+-- digits, no more than an id may have, whose value fits 64 bits
 abbrev pub is_id : List ℕ → Bool
 is_id rest =
-    list_all is_ascii_digit rest && nat_le (length rest) 20
+    list_all is_ascii_digit rest && nat_le (length rest) most_digits
     && nat_lt (digits_value 10 rest) (2 ^ 64)
 
 -- what is left of a line: nothing, an id, or a bad line
@@ -98,4 +99,4 @@ fault_within limit file room bytes =
 
 -- the first fault of a file, in the order of its bytes
 unfoldable pub first_fault : ℕ → ℕ → List ℕ → Option IdFault
-first_fault file room bytes = fault_within (2 ^ 30) file room bytes
+first_fault file room bytes = fault_within most_bytes file room bytes

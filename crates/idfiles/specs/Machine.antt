@@ -1,17 +1,20 @@
 -- What the bytes of a line so far are, one byte after the other.
-use Rattle.std.specs.Prelude.{◌≡◌, ℕ, ◌+◌, ◌-◌, ◌*◌, ◌^◌, Bool, true, false, ◌&&◌, ◌==◌, nat_lt, if◌then◌else◌, List, [], ◌∷◌}
+use Rattle.std.specs.Prelude.{◌≡◌, ℕ, ◌+◌, ◌-◌, ◌*◌, ◌^◌, ◌&&◌, ◌==◌, nat_lt, if◌then◌else◌, List, [], ◌∷◌, Option, None, Some}
 use Rattle.std.specs.Char.{is_ascii_digit}
 use Rattle.idfiles.specs.Grammar.{is_blank, cr}
+use Rattle.idfiles.specs.Limits.{most_digits}
+use Rattle.idfiles.specs.declared.front.ByteKind.{ByteKind}
+use Rattle.idfiles.specs.declared.front.ByteKind.TheVariants as kind
 use Rattle.idfiles.specs.declared.line.Line.{Line}
 use Rattle.idfiles.specs.declared.line.Line.TheVariants as line
 use Rattle.idfiles.specs.declared.line.LineState.{LineState}
 use Rattle.idfiles.specs.declared.line.LineState.TheVariants.{Blank, Digits, Behind, BlankCr, IdCr, Bad}
 
--- digits and one more: at most 20, with a value below 2 ^ 64
+-- digits and one more: as many as an id may have, with a value below 2 ^ 64
 abbrev pub with_digit : ℕ → ℕ → ℕ → LineState
 with_digit count value b =
     let more = value * 10 + (b - 48) in
-    if nat_lt count 20 && nat_lt more (2 ^ 64) then Digits (count + 1) more else Bad
+    if nat_lt count most_digits && nat_lt more (2 ^ 64) then Digits (count + 1) more else Bad
 
 -- the state of the line once this byte has come
 abbrev pub after_byte : LineState → ℕ → LineState
@@ -27,14 +30,14 @@ after_byte BlankCr b = Bad
 after_byte (IdCr value) b = Bad
 after_byte Bad b = Bad
 
--- whether a blank changes nothing
-abbrev pub keeps_at_blanks : LineState → Bool
-keeps_at_blanks Blank = true
-keeps_at_blanks (Behind value) = true
-keeps_at_blanks (Digits count value) = false
-keeps_at_blanks BlankCr = false
-keeps_at_blanks (IdCr value) = false
-keeps_at_blanks Bad = false
+-- the bytes that change nothing
+abbrev pub keeps_at : LineState → Option ByteKind
+keeps_at Blank = Some kind.Blank
+keeps_at (Behind value) = Some kind.Blank
+keeps_at Bad = Some kind.Inner
+keeps_at (Digits count value) = None
+keeps_at BlankCr = None
+keeps_at (IdCr value) = None
 
 -- the state once these bytes have come, in order
 abbrev pub after_bytes : LineState → List ℕ → LineState

@@ -1,8 +1,10 @@
-ghost use Rattle.std.specs.Prelude.{◌≡◌, ◌+◌, ◌-◌, ◌*◌, ◌^◌, ◌<◌, ◌≤◌, true, length, take, slice_index};
+// The digits at the front of some bytes, and the number that they write.
+ghost use Rattle.std.specs.Prelude.{◌≡◌, ◌+◌, ◌-◌, ◌*◌, ◌^◌, ◌<◌, ◌≤◌, true, false, length, take, slice_index};
 ghost use Rattle.std.specs.List.{list_all};
 ghost use Rattle.std.specs.Option.{SomeIff};
 ghost use Rattle.std.specs.Char.{is_ascii_digit};
 ghost use Rattle.std.specs.Str.Parse.{digits_value};
+ghost use Rattle.idfiles.specs.Limits.{safe_digits};
 
 // The value of so many digits fits 64 bits, whatever they are.
 const SAFE_DIGITS: usize = 19;
@@ -16,12 +18,14 @@ pub struct Digits {
     pub value: u64,
 }
 
-/// The digits at the front, at most 19.
+/// The digits at the front, as many as are safe.
 pub fn leading_digits(bytes: &[u8]) -> Digits
-    ensures count { (result.count ≤ 19) × (result.count ≤ length bytes.now) }
+    ensures count { (result.count ≤ safe_digits) × (result.count ≤ length bytes.now) }
     ensures digits { list_all is_ascii_digit (take result.count bytes.now) ≡ true }
     ensures value { result.value ≡ digits_value 10 (take result.count bytes.now) }
     ensures some { is_ascii_digit (slice_index bytes.now 0) ≡ true → 0 < result.count }
+    ensures all { result.count < safe_digits → result.count < length bytes.now
+        → is_ascii_digit (slice_index bytes.now result.count) ≡ false }
 {
     let front = &bytes[..bytes.len().min(SAFE_DIGITS)];
     let mut value = 0;

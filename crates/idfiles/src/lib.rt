@@ -9,6 +9,7 @@
 
 mod digits;
 mod fault;
+mod front;
 mod grammar;
 mod id_record;
 mod line;

@@ -1,10 +1,12 @@
-ghost use Rattle.std.specs.Prelude.{◌≡◌, ◌==◌, ℕ, true, false, ◌≤◌, ◌<◌, List, length, take, slice_index};
+// A line, byte by byte: what its bytes so far are, and what it is once it ends.
+ghost use Rattle.std.specs.Prelude.{◌≡◌, ◌==◌, ◌↔◌, ℕ, IsTrue, true, false, ◌≤◌, ◌<◌, List, length, take, slice_index};
 ghost use Rattle.std.specs.List.{list_all};
 ghost use Rattle.std.specs.Char.{is_ascii_digit};
-ghost use Rattle.idfiles.specs.Grammar.{IsIdLine, is_blank, is_inner, lf};
-ghost use Rattle.idfiles.specs.Machine.{IsAfter, after_byte, after_bytes, at_end, keeps_at_blanks, with_digit};
+ghost use Rattle.idfiles.specs.Grammar.{IsIdLine, is_inner, lf};
+ghost use Rattle.idfiles.specs.Machine.{IsAfter, after_byte, after_bytes, at_end, keeps_at, with_digit};
 
 use crate::digits::{leading_digits, with_digit};
+use crate::front::{ByteKind, leading};
 
 // An id has at most so many digits.
 const MAX_DIGITS: u32 = 20;
@@ -79,27 +81,6 @@ fn digits_run(bytes: &[u8]) -> Run
     }
 }
 
-// Whether the byte is a space or a tab.
-fn is_blank(byte: u8) -> bool
-    ensures { result ≡ is_blank byte }
-{
-    byte == b' ' || byte == b'\t'
-}
-
-// How many blanks stand at the front.
-fn leading_blanks(bytes: &[u8]) -> usize
-    ensures within { result ≤ length bytes.now }
-    ensures blank { list_all is_blank (take result bytes.now) ≡ true }
-    ensures some { is_blank (slice_index bytes.now 0) ≡ true → 0 < result }
-{
-    for (count, byte) in bytes.iter().enumerate() {
-        if !is_blank(*byte) {
-            return count;
-        }
-    }
-    bytes.len()
-}
-
 /// A state, and how many bytes led to it.
 #[derive(Clone, Copy)]
 pub struct Run {
@@ -110,15 +91,26 @@ pub struct Run {
 }
 
 impl LineState {
-    // Whether a blank changes nothing.
-    fn keeps_at_blanks(self) -> bool
-        ensures { result ≡ keeps_at_blanks self }
+    /// Whether nothing but blanks has come.
+    pub fn is_blank(self) -> bool
+        ensures { IsTrue result ↔ (self ≡ LineState.Blank) }
     {
-        matches!(self, LineState::Blank | LineState::Behind { .. })
+        matches!(self, LineState::Blank)
     }
 
-    /// What they are with some more bytes, of which the first is no LF: with all the blanks or the
-    /// digits that stand together, else with one byte.
+    // The bytes that change nothing.
+    fn keeps_at(self) -> Option<ByteKind>
+        ensures { result ≡ keeps_at self }
+    {
+        match self {
+            LineState::Blank | LineState::Behind { .. } => Some(ByteKind::Blank),
+            LineState::Bad => Some(ByteKind::Inner),
+            LineState::Digits { .. } | LineState::BlankCr | LineState::IdCr { .. } => None,
+        }
+    }
+
+    /// What they are with some more bytes, of which the first is no LF: with all the digits that
+    /// stand together, or all that change nothing, else with one byte.
     pub fn run(self, bytes: &[u8]) -> Run
         requires some { 0 < length bytes.now }
         requires inner { (slice_index bytes.now 0 == lf) ≡ false }
@@ -127,12 +119,12 @@ impl LineState {
         ensures state { result.state ≡ after_bytes self (take result.taken bytes.now) }
     {
         let first = bytes[0];
-        match self {
-            LineState::Blank if first.is_ascii_digit() => digits_run(bytes),
-            _ if is_blank(first) && self.keeps_at_blanks() => Run {
+        match self.keeps_at() {
+            Some(kind) if kind.has(first) => Run {
                 state: self,
-                taken: leading_blanks(bytes),
+                taken: leading(bytes, kind),
             },
+            _ if self.is_blank() && first.is_ascii_digit() => digits_run(bytes),
             _ => Run {
                 state: self.next(first),
                 taken: 1,

@@ -1,4 +1,7 @@
-ghost use Rattle.std.specs.Prelude.{◌≡◌, ◌+◌, ◌≤◌, ◌++◌, length, take, codes, decimal};
+// Lines that are printed, each into a buffer that any of them fits.
+ghost use Rattle.std.specs.Prelude.{◌≡◌, ◌+◌, ◌≤◌, ◌++◌, length, take, decimal};
+ghost use Rattle.idfiles.specs.Limits.{most_digits};
+ghost use Rattle.idfiles.specs.Print as spec;
 
 use itoa::Buffer;
 
@@ -15,8 +18,8 @@ fn put(buf: &mut [u8], at: usize, bytes: &[u8]) -> usize
 
 // Writes the digits of the number at this place, and gives the place behind them.
 fn put_number(buf: &mut [u8], at: usize, number: u64) -> usize
-    requires { at + 20 ≤ length buf.old }
-    ensures end { result ≤ at + 20 }
+    requires { at + most_digits ≤ length buf.old }
+    ensures end { result ≤ at + most_digits }
     ensures text { take result buf.new ≡ take at buf.old ++ decimal number }
 {
     let mut buffer = Buffer::new();
@@ -26,8 +29,7 @@ fn put_number(buf: &mut [u8], at: usize, number: u64) -> usize
 /// Writes `ID FILE:LINE` and LF to the front of the buffer, and gives the number of bytes.
 pub fn keep_line(id: u64, file: u32, line: u64, buf: &mut [u8; 64]) -> usize
     ensures length { result ≤ 64 }
-    ensures text { take result buf.new
-        ≡ decimal id ++ codes " " ++ decimal file ++ codes ":" ++ decimal line ++ codes "\n" }
+    ensures text { take result buf.new ≡ spec.keep_line id file line }
 {
     let mut end = put_number(buf, 0, id);
     end = put(buf, end, b" ");
@@ -40,7 +42,7 @@ pub fn keep_line(id: u64, file: u32, line: u64, buf: &mut [u8; 64]) -> usize
 /// Writes `ID` and LF to the front of the buffer, and gives the number of bytes.
 pub fn id_line(id: u64, buf: &mut [u8; 64]) -> usize
     ensures length { result ≤ 64 }
-    ensures text { take result buf.new ≡ decimal id ++ codes "\n" }
+    ensures text { take result buf.new ≡ spec.id_line id }
 {
     let end = put_number(buf, 0, id);
     put(buf, end, b"\n")
@@ -49,9 +51,7 @@ pub fn id_line(id: u64, buf: &mut [u8; 64]) -> usize
 /// Writes `records R distinct D` and LF to the front of the buffer, and gives the number of bytes.
 pub fn count_line(records: u64, distinct: u64, buf: &mut [u8; 64]) -> usize
     ensures length { result ≤ 64 }
-    ensures text { take result buf.new
-        ≡ codes "records " ++ decimal records
-        ++ codes " distinct " ++ decimal distinct ++ codes "\n" }
+    ensures text { take result buf.new ≡ spec.count_line records distinct }
 {
     let mut end = put(buf, 0, b"records ");
     end = put_number(buf, end, records);

@@ -1,3 +1,4 @@
+// A file of inputs, read whole.
 ghost use Rattle.std.specs.Prelude.{◌≡◌, ◌<◌, ◌≤◌, length, vec_len, IfOk};
 ghost use Rattle.idfiles.specs.Answer.{AnswersFile, AnswersTold, HasReadCause, ReadsBack};
 
@@ -16,6 +17,8 @@ const PIECE_BYTES: usize = 1 << 16;
 /// The bytes are judged in their order, and the first fault is the answer, whatever the pieces in
 /// which they come. At most 2^30 bytes are judged. After an `Err` nothing of the file is given, and
 /// the inputs may stand anywhere in it: start a file before the next read.
+///
+/// `read_back` and `room` are corollaries of `answer`.
 pub fn read_ids<I: Inputs>(
     alloc: Global,
     inputs: &mut I,
@@ -23,7 +26,8 @@ pub fn read_ids<I: Inputs>(
     file: u32,
     room: u64,
 ) -> Result<Vec<IdRecord>, IdFault>
-    ensures answer { AnswersFile file room (I.files inputs.old) name.now result }
+    ensures answer { AnswersFile file room (I.files inputs.old) name.now (I.left inputs.new)
+        result }
     ensures read_back { ReadsBack file room (I.files inputs.old) name.now result }
     ensures room { IfOk result (λ records. vec_len records ≤ room) }
     ensures cause { HasReadCause (I.faults inputs.old) (I.faults inputs.new) result }
@@ -52,7 +56,7 @@ fn read_started<I: Inputs>(
     room: u64,
 ) -> Result<Vec<IdRecord>, IdFault>
     requires { (0 < length buffer.old) × (length buffer.old ≤ PIECE_BYTES) }
-    ensures answer { AnswersTold file room (I.left inputs.old) result }
+    ensures answer { AnswersTold file room (I.left inputs.old) (I.left inputs.new) result }
     ensures cause { HasReadCause (I.faults inputs.old) (I.faults inputs.new) result }
     ensures files { I.files inputs.new ≡ I.files inputs.old }
 {

@@ -1,6 +1,8 @@
+// A file read from its front, line by line.
 ghost use Rattle.std.specs.Prelude.{◌≡◌, ◌+◌, ◌-◌, ◌^◌, ◌<◌, ◌≤◌, length, IfOk};
 ghost use Rattle.idfiles.specs.Scan.{Gives, ended, scanned, scanned_within, start};
 
+use crate::front::{ByteKind, leading};
 use crate::line::{Line, LineState};
 use crate::{IdFault, IdRecord};
 
@@ -73,13 +75,19 @@ impl Scan {
         let mut scan = self;
         let mut at = 0;
         while at < bytes.len() {
-            if bytes[at] == b'\n' {
-                scan = scan.end_line(records)?;
-                at += 1;
-            } else {
-                let run = scan.state.run(&bytes[at..]);
+            let rest = &bytes[at..];
+            if rest[0] != b'\n' {
+                let run = scan.state.run(rest);
                 scan.state = run.state;
                 at += run.taken;
+            } else if scan.state.is_blank() {
+                // A blank line ends, and the empty lines behind it.
+                let lines = leading(rest, ByteKind::Lf);
+                scan.line += lines as u64;
+                at += lines;
+            } else {
+                scan = scan.end_line(records)?;
+                at += 1;
             }
         }
         Ok(scan)

@@ -8,7 +8,12 @@ use Rattle.idfiles.proofs.read.read_started.Goals as goal
 
 -- the read failed
 pub returns-in_default-clause-answer : goal.returns-in_default-clause-answer
-returns-in_default-clause-answer g c = read_fault c.args.file c.args.room (g.I.Inputs.left c.args.inputs.now)
+returns-in_default-clause-answer g c =
+    let left = g.I.Inputs.left in
+    let so_far = c.pieces.invariant.read in
+    let kept = rw c.in_default.is at c.read.ensures.left in
+    read_fault c.args.file c.args.room c.pieces.left so_far.0 (left c.args.inputs.now) (left c.pieces.inputs) (left c.read.new.self)
+    c.pieces.scan c.pieces.records.items so_far.2 so_far.1 kept
 
 -- the input ended, in a line that was refused
 pub returns-in_err-end_line-clause-answer : goal.returns-in_err-end_line-clause-answer
@@ -70,6 +75,6 @@ pieces-preserved g c =
     record {
       read = (so_far.0 ++ piece, taken, now);
       line = omega (arith, before.line, c.in_ok-scan.ensures.line, c.in_ok-scan.ensures.within, count);
-      later = omega (arith, before.later, c.in-Ok.ensures.cause.later);
+      kept = c.in-Ok.ensures.cause.kept ∙ before.kept;
       files = c.in-Ok.ensures.files ∙ before.files;
     }

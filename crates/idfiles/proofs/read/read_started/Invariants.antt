@@ -14,7 +14,7 @@ invariant-pieces g l =
       read : (bytes : List ℕ) × Consumes (left l.fn.inputs) (left l.inputs) bytes
           × HasRead MAX_BYTES l.fn.file l.fn.room bytes l.left l.scan l.records.items;
       line : l.scan.line + l.left ≤ MAX_BYTES + 1;
-      later : faults l.fn.inputs ≤ faults l.inputs;
+      kept : faults l.inputs ≡ faults l.fn.inputs;
       files : files l.inputs ≡ files l.fn.inputs;
     }
 

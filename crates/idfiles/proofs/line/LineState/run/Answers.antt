@@ -1,11 +1,14 @@
-use Rattle.std.proofs.Common.{take, sym, ◌∙◌}
-use Rattle.idfiles.proofs.LawRun.{is_inner-blanks, kept_at_blanks}
+use Rattle.std.proofs.Common.{Some, take, sym, ◌≡◌, ◌∙◌}
+use Rattle.idfiles.specs.Machine.{keeps_at}
+use Rattle.idfiles.proofs.LawRun.{is_inner-kept, kept_at}
 use Rattle.idfiles.proofs.line.LineState.run.Goals as goal
 
-pub returns-in_default-clause-inner : goal.returns-in_default-clause-inner
-returns-in_default-clause-inner c = is_inner-blanks (take c.leading_blanks.result c.args.bytes.now) c.leading_blanks.ensures.blank
+pub returns-in-Some-clause-inner : goal.returns-in-Some-clause-inner
+returns-in-Some-clause-inner c =
+    let kept : keeps_at c.args.self ≡ Some c.in-Some.kind = sym c.keeps_at.ensures ∙ c.in-Some.is in
+    is_inner-kept c.args.self c.in-Some.kind (take c.leading.result c.args.bytes.now) kept c.leading.ensures.all
 
-pub returns-in_default-clause-state : goal.returns-in_default-clause-state
-returns-in_default-clause-state c =
-    kept_at_blanks c.args.self (take c.leading_blanks.result c.args.bytes.now) (sym c.keeps_at_blanks.ensures ∙ c.if-keeps_at_blanks.true)
-    c.leading_blanks.ensures.blank
+pub returns-in-Some-clause-state : goal.returns-in-Some-clause-state
+returns-in-Some-clause-state c =
+    let kept : keeps_at c.args.self ≡ Some c.in-Some.kind = sym c.keeps_at.ensures ∙ c.in-Some.is in
+    kept_at c.args.self c.in-Some.kind (take c.leading.result c.args.bytes.now) kept c.leading.ensures.all

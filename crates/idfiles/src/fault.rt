@@ -1,3 +1,4 @@
+// The faults of an id file.
 ghost use Rattle.std.specs.Prelude.{◌≡◌};
 ghost use Rattle.idfiles.specs.declared.fault.IdFault.TheVariants.{NoMemory};
 

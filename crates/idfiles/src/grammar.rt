@@ -1,3 +1,4 @@
+// What the grammar of id files says by itself.
 ghost use Rattle.std.specs.Prelude.{◌≡◌, ◌↔◌, ℕ, List};
 ghost use Rattle.idfiles.specs.Grammar.{IdFile};
 ghost use Rattle.idfiles.specs.Lines.{lines_of};

@@ -1,3 +1,5 @@
+// A record of an id file.
+
 /// An id, and where it stands.
 #[derive(Clone, Copy, Debug, PartialEq, Eq)]
 pub struct IdRecord {

@@ -1,3 +1,4 @@
+// Files read and lines printed, at concrete bytes.
 ghost use Rattle.std.specs.Prelude.{◌<◌, None};
 
 use super::*;

@@ -1,3 +1,4 @@
+// The sink that only takes.
 ghost use Rattle.std.specs.Prelude.{◌≡◌, None, Ok, length};
 ghost use Rattle.outside.specs.Calls.{TakesPiece};
 

@@ -1,3 +1,4 @@
+// The one error of inputs and sinks.
 ghost use Rattle.std.specs.Prelude.{Some, codes};
 
 use std::error::Error;

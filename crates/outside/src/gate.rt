@@ -1,3 +1,5 @@
+// Gates, which tests may hold workers in.
+
 /// Is called beside each call that a worker makes on the shared set. It tells nothing and changes
 /// no answer; a test may hold workers in it.
 pub trait Gate: Sync {

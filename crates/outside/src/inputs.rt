@@ -1,3 +1,4 @@
+// Inputs, whatever they are over.
 ghost use Rattle.std.specs.Prelude.{ℕ, List, Option};
 ghost use Rattle.outside.specs.Calls.{ReadsFront, StartsFile};
 ghost use Rattle.outside.specs.Files.{Files};

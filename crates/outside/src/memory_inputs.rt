@@ -1,3 +1,4 @@
+// Inputs in memory whose calls fail where a test lists them.
 ghost use Rattle.std.specs.Prelude.{◌≡◌, ◌<◌, ◌≤◌, not, false, IfOk, IsTrue, Some, []};
 ghost use Rattle.outside.specs.Calls.{ReadsFront, StartsFile};
 ghost use Rattle.outside.specs.Files.{files_of, has_file, names_differ};

@@ -1,3 +1,4 @@
+// A sink in memory whose writes fail where a test lists them.
 ghost use Rattle.std.specs.Prelude.{◌≡◌, ◌+◌, ◌<◌, ◌≤◌, length, vec_len, IfOk, Some, []};
 ghost use Rattle.outside.specs.Calls.{TakesPiece};
 ghost use Rattle.outside.specs.Script.{SinkFails, SinkCalled};

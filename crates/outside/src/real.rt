@@ -1,3 +1,4 @@
+// Inputs and sinks over the system.
 ghost use Rattle.std.specs.Prelude.{◌≡◌, IsSome, None, OnErr, OnOk};
 ghost use Rattle.std.specs.Io.{ReadsAtMost};
 ghost use Rattle.outside.specs.Calls.{HandsOn, ReadsStarted, TakesPiece};

@@ -1,3 +1,4 @@
+// Sinks, whatever they are over.
 ghost use Rattle.std.specs.Prelude.{ℕ, List, Option};
 ghost use Rattle.outside.specs.Calls.{TakesPiece};
 

@@ -1,3 +1,4 @@
+// Inputs in memory that never fail.
 ghost use Rattle.std.specs.Prelude.{◌≡◌, IsOk, IsTrue, Some, []};
 ghost use Rattle.outside.specs.Calls.{ReadsFront, StartsFile};
 ghost use Rattle.outside.specs.Files.{files_of, names_differ};

@@ -1,3 +1,4 @@
+// The three calls on a set.
 ghost use Rattle.std.specs.Prelude.{◌≡◌};
 ghost use Rattle.set_model.specs.Call.{answer_where};
 

@@ -1,3 +1,4 @@
+// One entry of a history: a call, its key, and the answer that is told of it.
 ghost use Rattle.std.specs.Prelude.{◌≡◌, ℕ, Bool};
 ghost use Rattle.set_model.specs.Call.{members_after_call};
 

@@ -1,3 +1,4 @@
+// The one error of a set.
 ghost use Rattle.std.specs.Prelude.{Some, codes};
 
 use std::alloc::{AllocError, AllocFailed};

@@ -1,3 +1,4 @@
+// Each public call once, at concrete values.
 use super::*;
 use std::test::Fail;
 

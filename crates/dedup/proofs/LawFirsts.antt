@@ -9,10 +9,10 @@ use Rattle.std.proofs.lemmas.Bool.{false≢true, cases_Bool}
 use Rattle.std.proofs.lemmas.List.{get_or-map, length-map, map-append}
 use Rattle.std.proofs.lemmas.List.Elements.{All-nil, All-push}
 use Rattle.std.proofs.lemmas.List.Folds.{find-append}
-use Rattle.std.proofs.lemmas.List.Sorted.{All-permutation, IsPermutation-map, list_any-IsPermutation}
+use Rattle.std.proofs.lemmas.List.Sorted.{All-permutation, IsPermutation-map}
 use Rattle.std.proofs.lemmas.Map.Keys.{IsDistinct-IsPermutation, IsDistinct-push, IsStrictlyIncreasing-from_distinct}
 use Rattle.set_model.specs.Keys.{keys_set}
-use Rattle.set_model.proofs.LawKeys.{insert-present}
+use Rattle.set_model.proofs.LawKeys.{insert-present, keys_set-IsPermutation}
 use Rattle.idfiles.specs.declared.id_record.IdRecord.{IdRecord}
 use Rattle.dedup.specs.Records.{AreChanging, AreFirsts, IsFirst, first_of, ids_of}
 
@@ -43,12 +43,6 @@ none_of : (records : List IdRecord) (id : ℕ) → set.contains (keys_set (ids_o
     → list_any (nat_eq id) (ids_of records) ≡ false
 none_of records id absent =
     ap (λ p. list_any p (ids_of records)) (λ i y. nat_eq_equiv.symm id y i) ∙ sym (set.contains-from_list_nat (ids_of records) id) ∙ absent
-
--- numbers that change places have one set
-same_ids : (ids moved : List ℕ) → IsPermutation ids moved → keys_set ids ≡ keys_set moved
-same_ids ids moved moves =
-    set.same_set nat_cmp_total set.nat_cmp-IsAntisymmetric (keys_set ids) (keys_set moved) (λ q.
-    set.contains-from_list_nat ids q ∙ list_any-IsPermutation (λ y. nat_eq y q) ids moved moves ∙ sym (set.contains-from_list_nat moved q))
 
 -- records sorted by id have ids that don't fall
 ids-rise : (sorted : List IdRecord) → IsNonDecreasingBy (λ r. r.id) sorted → IsNonDecreasing (ids_of sorted)
@@ -99,7 +93,7 @@ AreFirsts-sorted records firsts sorted changing moved rises =
     let differ = IsDistinct-IsPermutation nat_eq nat_eq_equiv.symm (ids_of firsts) (ids_of sorted) ids changing.differ in
     record {
       rising = IsStrictlyIncreasing-from_distinct (ids_of sorted) (ids-rise sorted rises) differ;
-      same = sym (same_ids (ids_of firsts) (ids_of sorted) ids) ∙ changing.same;
+      same = sym (keys_set-IsPermutation (ids_of firsts) (ids_of sorted) ids) ∙ changing.same;
       first = All-permutation (IsFirst records) firsts sorted moved changing.first;
     }
 

@@ -8,18 +8,18 @@ use Rattle.step_core.specs.Drawn.{HasDrawn}
 use Rattle.step_core.specs.Single.{only_row}
 use Rattle.step_core.proofs.seen.Drawn.{only_row-count, only_row-keys}
 use Rattle.step_core.proofs.seen.Single.{one_row}
-use Rattle.dedup.specs.Table.{HasRoom, IsRow}
+use Rattle.dedup.specs.Table.{HasRoom, IsRisingRow}
 
 -- the only row is a row
-pub IsRow-only : (words : List ℕ) → HasRoom words → IsRow words (only_row words)
-IsRow-only words room =
+pub IsRisingRow-only : (words : List ℕ) → HasRoom words → IsRisingRow words (only_row words)
+IsRisingRow-only words room =
     let one = one_row words room.well_formed room.single in
     record { within = one.within; count = one.count; rising = one.rising; fits = room.fits }
 
 -- while another block is written it stays so
-pub IsRow-drawn : (words now : List ℕ) (len : ℕ) (block : List ℕ) → HasRoom words → HasDrawn words now len block
-    → IsRow now (only_row words)
-IsRow-drawn words now len block room have =
+pub IsRisingRow-drawn : (words now : List ℕ) (len : ℕ) (block : List ℕ) → HasRoom words → HasDrawn words now len block
+    → IsRisingRow now (only_row words)
+IsRisingRow-drawn words now len block room have =
     let one = one_row words room.well_formed room.single in
     let keys = only_row-keys one have in
     let count = only_row-count one have in

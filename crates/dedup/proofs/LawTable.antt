@@ -20,7 +20,7 @@ use Rattle.step_core.proofs.tables.Opened.{opening_words-none, opening-one_bucke
 use Rattle.step_core.proofs.tables.Written.{length-opening_of}
 use Rattle.step_core.proofs.seen.Single.{one_row}
 use Rattle.dedup.specs.Table.{HasRoom, HasTaken, HoldsFew, size_of}
-use Rattle.dedup.specs.declared.load.TheConstants.{RECORDS}
+use Rattle.dedup.specs.Limits.{most_records}
 use Rattle.dedup.specs.declared.table.TheConstants.{END}
 
 -- the members are one set
@@ -106,7 +106,7 @@ HoldsFew-opening words cap fits is well members = record {
 
 -- there is room for one more id
 pub HasRoom-few : (words : List ℕ) (keys : set.FinSet nat_cmp) (records : ℕ) → HoldsFew words END keys records
-    → records < RECORDS → HasRoom words
+    → records < most_records → HasRoom words
 HasRoom-few words keys records few more = record {
   well_formed = few.well_formed;
   single = few.single;
@@ -116,7 +116,7 @@ HasRoom-few words keys records few more = record {
 
 -- one more id was taken
 pub HoldsFew-more : (words later : List ℕ) (keys : set.FinSet nat_cmp) (records id : ℕ) (answer : Bool)
-    → HoldsFew words END keys records → records < RECORDS → HasTaken words later id answer
+    → HoldsFew words END keys records → records < most_records → HasTaken words later id answer
     → HoldsFew later END (set.insert keys id) (records + 1)
 HoldsFew-more words later keys records id answer few more taken = record {
   well_formed = taken.well_formed;

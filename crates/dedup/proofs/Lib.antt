@@ -2,6 +2,5 @@ mod LawEnds
 mod LawFirsts
 mod LawInputs
 mod LawKinds
-mod LawOne
 mod LawRow
 mod LawTable

@@ -1,5 +1,6 @@
 pub mod Fault
 pub mod Inputs
+pub mod Limits
 pub mod Output
 pub mod Records
 pub mod Run

@@ -11,10 +11,10 @@ use Rattle.step_core.specs.Format.{next_of}
 use Rattle.step_core.specs.Openings.{opening_words}
 use Rattle.step_core.specs.Single.{HasOneBucket, only_row}
 use Rattle.step_core.specs.declared.format.TheConstants.{FIRST_KEY}
-use Rattle.dedup.specs.declared.load.TheConstants.{RECORDS}
+use Rattle.dedup.specs.Limits.{most_records}
 
 -- at the address stands a row of rising keys
-pub record IsRow (words : List ℕ) (row : ℕ) : Type 0 where
+pub record IsRisingRow (words : List ℕ) (row : ℕ) : Type 0 where
   pub within : row + FIRST_KEY + slice_index words row ≤ length words
   pub count : length (row_keys words row) ≡ slice_index words row
   pub rising : IsStrictlyIncreasing (row_keys words row)
@@ -48,5 +48,5 @@ pub record HoldsFew (words : List ℕ) (end : ℕ) (keys : FinSet nat_cmp) (reco
   pub single : HasOneBucket words
   pub members : HasMembers words keys
   pub size : size_of words ≤ records
-  pub next : next_of words ≤ opening_words 1 [] + records * (FIRST_KEY + RECORDS)
+  pub next : next_of words ≤ opening_words 1 [] + records * (FIRST_KEY + most_records)
   pub long : length words ≡ end

@@ -12,7 +12,10 @@ use Rattle.clap.specs.declared.error.kind.ErrorKind.TheVariants.{OutOfMemory}
 use Rattle.dedup.specs.declared.command.Listing.{Listing}
 use Rattle.dedup.specs.declared.command.Listing.TheVariants.{Keep, Ids, Count}
 use Rattle.dedup.specs.declared.fault.Fault.{Fault}
-use Rattle.dedup.specs.declared.fault.Fault.TheVariants.{BadWords, NoMemory}
+use Rattle.dedup.specs.declared.fault.Fault.TheVariants.{BadWords}
+use Rattle.dedup.specs.declared.fault.Fault.TheVariants as fault
+use Rattle.idfiles.specs.declared.fault.IdFault.TheVariants.{NoMemory}
+use Rattle.dedup.specs.Limits.{most_files}
 
 -- the words as bytes
 abbrev pub texts : List (String Global) → List (List ℕ)
@@ -44,9 +47,9 @@ is_read words = is_faultless (fault_of dedup_app words)
 unfoldable pub rows_in : List (List ℕ) → List Row
 rows_in words = matches_of dedup_app words
 
--- whether a value is 1 to 3 digits that write 1
+-- whether a value is at most 3 digits, which write 1
 abbrev pub is_one : List ℕ → Bool
-is_one value = (nat_lt 0 (length value) && nat_le (length value) 3)
+is_one value = nat_le (length value) 3
     && (list_all is_ascii_digit value && digits_value 10 value == 1)
 
 -- the list that a value names
@@ -67,9 +70,9 @@ listing_in rows = option_map_or listing_named (first_of (codes "list") rows) (So
 abbrev pub files_in : List Row → List (List ℕ)
 files_in rows = unwrap_or (all_of (codes "FILE") rows) []
 
--- whether so many FILEs may stand in the command: 1 to 64
+-- whether so many FILEs may stand in the command
 abbrev pub is_file_count : ℕ → Bool
-is_file_count count = nat_lt 0 count && nat_le count 64
+is_file_count count = nat_lt 0 count && nat_le count most_files
 
 -- Whether the words are the command. The first of them is the program's name, whatever it is.
 abbrev pub is_command : List (List ℕ) → Bool
@@ -86,11 +89,11 @@ files_named words = files_in (rows_in words)
 
 -- the fault of a run whose words `clap` answers with an error
 abbrev pub fault_of_kind : ErrorKind → Fault
-fault_of_kind OutOfMemory = NoMemory
+fault_of_kind OutOfMemory = fault.Ids NoMemory
 fault_of_kind other = BadWords
 
 -- the faults of reading words: want of memory at any time, bad words only where the test fails
 abbrev pub MayRefuse : Bool → Fault → Type 0
-MayRefuse test NoMemory = ⊤
 MayRefuse test BadWords = test ≡ false
+MayRefuse test (fault.Ids NoMemory) = ⊤
 MayRefuse test other = ⊥

@@ -1,3 +1,5 @@
+// The command: what the words of a run ask for.
+
 /// The greatest number of FILEs in one command.
 pub(crate) const MAX_FILES: usize = 64;
 

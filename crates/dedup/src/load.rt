@@ -2,13 +2,14 @@
 ghost use Rattle.std.specs.Prelude.{◌≡◌, ◌≤◌, IfOk, length, map, vec_len};
 ghost use Rattle.idfiles.specs.Answer.{HasReadCause};
 ghost use Rattle.dedup.specs.Inputs.{AnswersFiles};
+ghost use Rattle.dedup.specs.Limits.{most_files, most_records};
 
 use idfiles::{IdFault, IdRecord, read_ids};
 use outside::Inputs;
 use std::alloc::Global;
 
 /// The most records of a run.
-pub(crate) const RECORDS: usize = 2048;
+pub(crate) const MAX_RECORDS: usize = 2048;
 
 /// The records of the files, in order of file and line, or the first fault in the order of their
 /// bytes. The files are numbered from 1.
@@ -17,14 +18,15 @@ pub(crate) fn load<I: Inputs>(
     inputs: &mut I,
     names: &[&str],
 ) -> Result<Vec<IdRecord>, IdFault>
-    requires { length names.now ≤ 64 }
-    ensures answer { AnswersFiles (I.files inputs.old) (map (λ name. name.now) names.now) result }
-    ensures few { IfOk result (λ records. vec_len records ≤ RECORDS) }
+    requires { length names.now ≤ most_files }
+    ensures answer { AnswersFiles (I.files inputs.old) (map (λ name. name.now) names.now)
+        (I.left inputs.new) result }
+    ensures few { IfOk result (λ records. vec_len records ≤ most_records) }
     ensures cause { HasReadCause (I.faults inputs.old) (I.faults inputs.new) result }
 {
     let mut records = Vec::new(alloc);
     for (place, name) in names.iter().enumerate() {
-        let room = (RECORDS - records.len()) as u64;
+        let room = (MAX_RECORDS - records.len()) as u64;
         let more = read_ids(alloc, inputs, name, place as u32 + 1, room)?;
         records.extend_from_slice(&more)?;
     }

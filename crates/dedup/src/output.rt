@@ -1,5 +1,5 @@
 // The output as one text.
-ghost use Rattle.std.specs.Prelude.{◌≡◌, IfOk, length, flat_map};
+ghost use Rattle.std.specs.Prelude.{◌≡◌, ◌≤◌, IfOk, take};
 ghost use Rattle.dedup.specs.Output as spec;
 
 use crate::command::Listing;
@@ -16,46 +16,36 @@ pub(crate) fn text_of(
 ) -> Result<Vec<u8>, NoMemory>
     ensures { IfOk result (λ text. text.items ≡ spec.text_of listing records firsts.now) }
 {
-    match listing {
-        Listing::Keep => keep_lines(alloc, firsts),
-        Listing::Ids => id_lines(alloc, firsts),
-        Listing::Count => count(alloc, records, firsts.len() as u64),
-    }
-}
-
-// Each record on a line of its own.
-fn keep_lines(alloc: Global, firsts: &[IdRecord]) -> Result<Vec<u8>, NoMemory>
-    ensures { IfOk result (λ text. text.items ≡ flat_map spec.keep_line firsts.now) }
-{
     let mut text = Vec::new(alloc);
     let mut buf = [0u8; 64];
     for first in firsts {
-        let len = keep_line(first.id, first.file, first.line, &mut buf);
+        let len = line(listing, first, &mut buf);
         text.extend_from_slice(&buf[..len])?;
     }
-    Ok(text)
-}
-
-// The id of each record on a line of its own.
-fn id_lines(alloc: Global, firsts: &[IdRecord]) -> Result<Vec<u8>, NoMemory>
-    ensures { IfOk result (λ text. text.items ≡ flat_map (λ r. spec.id_line r.id) firsts.now) }
-{
-    let mut text = Vec::new(alloc);
-    let mut buf = [0u8; 64];
-    for first in firsts {
-        let len = id_line(first.id, &mut buf);
-        text.extend_from_slice(&buf[..len])?;
-    }
-    Ok(text)
-}
-
-// The two numbers on one line.
-fn count(alloc: Global, records: u64, ids: u64) -> Result<Vec<u8>, NoMemory>
-    ensures { IfOk result (λ text. text.items ≡ spec.count_line records ids) }
-{
-    let mut text = Vec::new(alloc);
-    let mut buf = [0u8; 64];
-    let len = count_line(records, ids, &mut buf);
+    let len = end_line(listing, records, firsts.len() as u64, &mut buf);
     text.extend_from_slice(&buf[..len])?;
     Ok(text)
+}
+
+// Writes the line of a first record to the front of the buffer, and gives the number of bytes.
+fn line(listing: Listing, first: &IdRecord, buf: &mut [u8; 64]) -> usize
+    ensures length { result ≤ 64 }
+    ensures text { take result buf.new ≡ spec.line_in listing first.now }
+{
+    match listing {
+        Listing::Keep => keep_line(first.id, first.file, first.line, buf),
+        Listing::Ids => id_line(first.id, buf),
+        Listing::Count => 0,
+    }
+}
+
+// The same of the line behind them.
+fn end_line(listing: Listing, records: u64, ids: u64, buf: &mut [u8; 64]) -> usize
+    ensures length { result ≤ 64 }
+    ensures text { take result buf.new ≡ spec.end_line_in listing records ids }
+{
+    match listing {
+        Listing::Keep | Listing::Ids => 0,
+        Listing::Count => count_line(records, ids, buf),
+    }
 }

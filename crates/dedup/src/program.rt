@@ -1,7 +1,8 @@
+// The run: from words to a status.
 ghost use Rattle.std.specs.Prelude.{◌≡◌, ◌≤◌, length, map, Err, Result};
-ghost use Rattle.outside.specs.Faults.{Rose};
-ghost use Rattle.dedup.specs.Fault.{line_of, line_of_ending, status_of, status_of_fault};
-ghost use Rattle.dedup.specs.Run.{Ends, HasCauses, HasRead, IsSilent, ListsFiles, Said};
+ghost use Rattle.dedup.specs.Fault.{ending_line, fault_line, status_of, status_of_fault};
+ghost use Rattle.dedup.specs.Limits.{most_files};
+ghost use Rattle.dedup.specs.Run.{Ends, HasCauses, HasRead, ListsFiles, RoseAt, Said};
 ghost use Rattle.dedup.specs.Words.{texts};
 ghost use Rattle.dedup.specs.declared.fault.Fault.{Fault};
 
@@ -11,6 +12,7 @@ use crate::load::load;
 use crate::output::text_of;
 use crate::table::firsts;
 use crate::words::read_words;
+use idfiles::IdFault;
 use outside::{Gate, Inputs, Sink, write_whole};
 use std::alloc::Global;
 use std::thread::Threads;
@@ -38,12 +40,12 @@ pub fn run<R: Threads + Sync, I: Inputs, O: Sink, E: Sink, G: Gate>(
 ) -> Ended
     ensures words { HasRead (texts words.now) result.status }
     ensures ends { (ending : Result (Unit {0}) Fault) × (result.status ≡ status_of ending)
-        × Ends (I.files inputs.old) (texts words.now) (O.written out.old) (O.written out.new) ending
-        × Said (line_of_ending ending) (E.faults faults.old) (E.faults faults.new)
+        × Ends (I.files inputs.old) (texts words.now) (I.left inputs.new) (O.written out.old)
+        (O.written out.new) ending
+        × Said (ending_line ending) (E.faults faults.old) (E.faults faults.new)
         (E.written faults.old) (E.written faults.new) }
     ensures causes { HasCauses result.status
         (I.faults inputs.old) (I.faults inputs.new) (O.faults out.old) (O.faults out.new) }
-    ensures silent { IsSilent result.status (O.written out.old) (O.written out.new) }
 {
     match print_list(alloc, words, inputs, out) {
         Ok(()) => Ended { status: 0 },
@@ -54,10 +56,10 @@ pub fn run<R: Threads + Sync, I: Inputs, O: Sink, E: Sink, G: Gate>(
 /// Ends a run whose words could not be had for want of memory: its line, and status 1.
 pub fn out_of_memory<E: Sink>(faults: &mut E) -> Ended
     ensures status { result.status ≡ 1 }
-    ensures line { Said (line_of Fault.NoMemory)
+    ensures line { Said (fault_line (Fault.Ids IdFault.NoMemory))
         (E.faults faults.old) (E.faults faults.new) (E.written faults.old) (E.written faults.new) }
 {
-    report(faults, Fault::NoMemory)
+    report(faults, Fault::Ids(IdFault::NoMemory))
 }
 
 // The run without its report.
@@ -68,11 +70,10 @@ fn print_list<I: Inputs, O: Sink>(
     out: &mut O,
 ) -> Result<(), Fault>
     ensures words { HasRead (texts words.now) (status_of result) }
-    ensures ends { Ends (I.files inputs.old) (texts words.now)
+    ensures ends { Ends (I.files inputs.old) (texts words.now) (I.left inputs.new)
         (O.written out.old) (O.written out.new) result }
     ensures causes { HasCauses (status_of result)
         (I.faults inputs.old) (I.faults inputs.new) (O.faults out.old) (O.faults out.new) }
-    ensures silent { IsSilent (status_of result) (O.written out.old) (O.written out.new) }
 {
     let asked = read_words(alloc, words)?;
     let text = list_of(alloc, inputs, &asked)?;
@@ -84,10 +85,10 @@ fn print_list<I: Inputs, O: Sink>(
 
 // The list that is asked for.
 fn list_of<I: Inputs>(alloc: Global, inputs: &mut I, asked: &Command<'_>) -> Result<Vec<u8>, Fault>
-    requires { length asked.now.files.items ≤ 64 }
+    requires { length asked.now.files.items ≤ most_files }
     ensures lists { ListsFiles (I.files inputs.old)
-        (map (λ name. name.now) asked.now.files.items) asked.now.listing result }
-    ensures read { status_of result ≡ 4 → Rose (I.faults inputs.old) (I.faults inputs.new) }
+        (map (λ name. name.now) asked.now.files.items) (I.left inputs.new) asked.now.listing result }
+    ensures read { RoseAt 4 (status_of result) (I.faults inputs.old) (I.faults inputs.new) }
 {
     let records = load(alloc, inputs, &asked.files)?;
     let firsts = firsts(alloc, &records)?;
@@ -97,7 +98,7 @@ fn list_of<I: Inputs>(alloc: Global, inputs: &mut I, asked: &Command<'_>) -> Res
 // Writes the fault's line, and ends with its status.
 fn report<E: Sink>(faults: &mut E, fault: Fault) -> Ended
     ensures status { result.status ≡ status_of_fault fault }
-    ensures line { Said (line_of fault)
+    ensures line { Said (fault_line fault)
         (E.faults faults.old) (E.faults faults.new) (E.written faults.old) (E.written faults.new) }
 {
     // A fault in writing the line changes no status.

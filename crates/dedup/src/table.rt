@@ -5,10 +5,10 @@ ghost use Rattle.step_core.specs.Content.{row_keys};
 ghost use Rattle.step_core.specs.Drawn.{HasBuilt};
 ghost use Rattle.step_core.specs.Format.{next_of};
 ghost use Rattle.step_core.specs.Single.{only_row};
+ghost use Rattle.dedup.specs.Limits.{most_records};
 ghost use Rattle.dedup.specs.Records.{AreChanging, AreFirsts};
-ghost use Rattle.dedup.specs.Table.{HasRoom, HasTaken, IsRow};
+ghost use Rattle.dedup.specs.Table.{HasRoom, HasTaken, IsRisingRow};
 
-use crate::load::RECORDS;
 use crate::steps::{draw, load_bucket, load_head, load_sealed, swap_row, write};
 use idfiles::IdRecord;
 use set_model::NoMemory;
@@ -20,7 +20,7 @@ const END: u64 = 1 << 23;
 
 /// The first record of each id, rising by id.
 pub(crate) fn firsts(alloc: Global, records: &[IdRecord]) -> Result<Vec<IdRecord>, NoMemory>
-    requires { length records.now ≤ RECORDS }
+    requires { length records.now ≤ most_records }
     ensures { IfOk result (λ firsts. AreFirsts records.now firsts.items) }
 {
     let mut firsts = changing(alloc, records)?;
@@ -30,7 +30,7 @@ pub(crate) fn firsts(alloc: Global, records: &[IdRecord]) -> Result<Vec<IdRecord
 
 // The records whose insert changed the set, in their order.
 fn changing(alloc: Global, records: &[IdRecord]) -> Result<Vec<IdRecord>, NoMemory>
-    requires { length records.now ≤ RECORDS }
+    requires { length records.now ≤ most_records }
     ensures { IfOk result (λ firsts. AreChanging records.now firsts.items) }
 {
     let layout = Layout { seats: 1, cap: END };
@@ -63,7 +63,7 @@ fn insert(words: &mut Words, id: u64) -> bool
 
 // The id's place among the keys of the row, or the place where it would stand.
 fn place_of(words: &mut Words, row: u64, id: u64) -> Result<u64, u64>
-    requires { IsRow words.old row }
+    requires { IsRisingRow words.old row }
     ensures words { words.new ≡ words.old }
     ensures found { IfOk result (λ place. (place < length (row_keys words.old row))
         × (slice_index (row_keys words.old row) place ≡ id)) }
@@ -86,7 +86,7 @@ fn place_of(words: &mut Words, row: u64, id: u64) -> Result<u64, u64>
 fn build(words: &mut Words, row: u64, place: u64, id: u64) -> u64
     requires room { HasRoom words.old }
     requires row { row ≡ only_row words.old }
-    requires is_row { IsRow words.old row }
+    requires is_row { IsRisingRow words.old row }
     requires place { place ≤ length (row_keys words.old row) }
     ensures built { HasBuilt words.old words.new (insert (row_keys words.old row) place id) }
     ensures start { result ≡ next_of words.old }
@@ -105,7 +105,7 @@ fn build(words: &mut Words, row: u64, place: u64, id: u64) -> u64
 
 // The key at `i` of the row with the id put in at the place.
 fn longer_at(words: &mut Words, row: u64, place: u64, id: u64, i: u64) -> u64
-    requires row { IsRow words.old row }
+    requires row { IsRisingRow words.old row }
     requires place { place ≤ length (row_keys words.old row) }
     requires i { i ≤ length (row_keys words.old row) }
     ensures words { words.new ≡ words.old }

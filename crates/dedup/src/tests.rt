@@ -1,88 +1,12 @@
-ghost use Rattle.std.specs.Prelude.{IfOk, IsTrue, None};
-ghost use Rattle.outside.specs.Files.{files_of, names_differ};
-
-use super::*;
-use outside::{Failed, Inputs, MemInputs, MemSink, OpenGate};
-use std::alloc::Global;
+// Runs over files in memory: what is printed, and what is told of a fault.
+use fixture::{NONE, run_on};
 use std::test::Fail;
-use std::thread::Threads;
 
 mod faults;
+mod fixture;
 mod words;
 
 const IDS: [&str; 4] = ["dedup", "--list", "ids", "f"];
-
-// The numbers of the calls that fail.
-#[derive(Clone, Copy)]
-struct Fails {
-    inputs: u64,
-    out: u64,
-    faults: u64,
-}
-
-const NONE: Fails = Fails {
-    inputs: u64::MAX,
-    out: u64::MAX,
-    faults: u64::MAX,
-};
-
-// A run's status, and what it wrote on the out sink and on the fault sink.
-#[derive(Drop)]
-struct Outcome {
-    status: u8,
-    out: MemSink,
-    faults: MemSink,
-}
-
-fn sink(alloc: Global, fails: u64) -> Result<MemSink, Fail> {
-    Ok(MemSink::new(vec![in alloc; 0u8; 64]?, vec![in alloc; fails]?, 1))
-}
-
-// The files `f` and `g`.
-fn two_files(alloc: Global, f: &[u8], g: &[u8]) -> Result<Vec<(String, Vec<u8>)>, Fail>
-    ensures { IfOk result (λ files. IsTrue (names_differ (files_of files.items))) }
-{
-    let mut files = Vec::new(alloc);
-    files.push((String::from_str(alloc, "f")?, f.to_vec(alloc)?))?;
-    files.push((String::from_str(alloc, "g")?, g.to_vec(alloc)?))?;
-    Ok(files)
-}
-
-// A run over those inputs, whose sinks take one byte a call.
-fn run_over<I: Inputs>(
-    rt: &(impl Threads + Sync),
-    alloc: Global,
-    words: &[&str],
-    inputs: &mut I,
-    fails: &Fails,
-) -> Result<Outcome, Fail> {
-    let mut owned = Vec::new(alloc);
-    for word in words {
-        owned.push(String::from_str(alloc, word)?)?;
-    }
-    let mut out = sink(alloc, fails.out)?;
-    let mut faults = sink(alloc, fails.faults)?;
-    let ended = run(rt, alloc, &owned, inputs, &mut out, &mut faults, &OpenGate);
-    Ok(Outcome {
-        status: ended.status,
-        out,
-        faults,
-    })
-}
-
-// A run over the files `f` and `g`, read one byte a call.
-fn run_on(
-    rt: &(impl Threads + Sync),
-    alloc: Global,
-    words: &[&str],
-    f: &[u8],
-    g: &[u8],
-    fails: &Fails,
-) -> Result<Outcome, Fail> {
-    let files = two_files(alloc, f, g)?;
-    let mut inputs = MemInputs::new(files, vec![in alloc; fails.inputs]?, 1);
-    run_over(rt, alloc, words, &mut inputs, fails)
-}
 
 #[test]
 fn prints_each_id_once(rt: HostRuntime) -> Result<(), Fail> {
@@ -205,48 +129,6 @@ fn a_run_has_at_most_2048_records(rt: HostRuntime) -> Result<(), Fail> {
     assert_eq!(rt;
         past.faults.bytes(),
         b"dedup: too many records\n".as_slice()
-    );
-    Ok(())
-}
-
-// LF again and again, so many bytes in all. It tells nothing.
-#[derive(Drop)]
-struct Empty {
-    left: usize,
-}
-
-impl Inputs for Empty {
-    ghost faults = { λ _. 0 };
-
-    ghost files = { λ _. None };
-
-    ghost left = { λ _. None };
-
-    fn start(&mut self, _name: &str) -> Result<(), Failed> {
-        Ok(())
-    }
-
-    fn read(&mut self, buf: &mut [u8]) -> Result<usize, Failed> {
-        let count = self.left.min(buf.len());
-        for byte in buf.iter_mut() {
-            *byte = b'\n';
-        }
-        self.left -= count;
-        Ok(count)
-    }
-}
-
-#[test]
-fn a_file_has_at_most_2_to_the_30_bytes(rt: HostRuntime) -> Result<(), Fail> {
-    let mut inputs = Empty {
-        left: (1 << 30) + 1,
-    };
-    let outcome = run_over(&rt, rt.alloc(), &IDS, &mut inputs, &NONE)?;
-    assert_eq!(rt; outcome.status, 6);
-    assert!(rt; outcome.out.bytes().is_empty());
-    assert_eq!(rt;
-        outcome.faults.bytes(),
-        b"dedup: file 1 too long\n".as_slice()
     );
     Ok(())
 }

@@ -1,4 +1,7 @@
+// The words of a run, read by `clap`.
 ghost use Rattle.std.specs.Prelude.{◌≡◌, IfOk, IfErr, true, false, length, map};
+ghost use Rattle.std.specs.Char.{is_ascii_digit};
+ghost use Rattle.std.specs.List.{list_all};
 ghost use Rattle.clap.specs.Words.{app_of, found_of, rows_of, rule_of};
 ghost use Rattle.dedup.specs.Words.{MayRefuse, dedup_app, fault_of_kind, file_rule, files_in, files_named};
 ghost use Rattle.dedup.specs.Words.{has_one_worker, is_command, is_file_count, is_one, is_read, list_asked};
@@ -8,6 +11,7 @@ use crate::command::{Command, Listing, MAX_FILES};
 use crate::fault::Fault;
 use clap::error::ErrorKind;
 use clap::{Arg, ArgAction, ArgMatches};
+use idfiles::IdFault;
 use std::alloc::{AllocError, Global};
 
 /// What the words ask for. The first of them is the program's name, whatever it is.
@@ -68,7 +72,7 @@ fn fault_of(kind: ErrorKind) -> Fault
     ensures { result ≡ fault_of_kind kind }
 {
     match kind {
-        ErrorKind::OutOfMemory => Fault::NoMemory,
+        ErrorKind::OutOfMemory => Fault::Ids(IdFault::NoMemory),
         _ => Fault::BadWords,
     }
 }
@@ -85,7 +89,19 @@ fn has_one_worker(matches: &ArgMatches<'_>) -> bool
 fn is_one(value: &str) -> bool
     ensures { result ≡ is_one value.now }
 {
-    value == "1" || value == "01" || value == "001"
+    if value.len() > 3 || !has_digits_alone(value) {
+        return false;
+    }
+    match value.parse::<u8>() {
+        Ok(number) => number == 1,
+        Err(_) => false,
+    }
+}
+
+fn has_digits_alone(value: &str) -> bool
+    ensures { result ≡ list_all is_ascii_digit value.now }
+{
+    value.bytes().all(|byte| byte.is_ascii_digit())
 }
 
 fn listing_in(matches: &ArgMatches<'_>) -> Option<Listing>

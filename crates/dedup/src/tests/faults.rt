@@ -1,4 +1,6 @@
-use super::{Fails, IDS, NONE, run_on, sink};
+// Each call that can fail, failing in turn.
+use super::IDS;
+use super::fixture::{Fails, NONE, run_on, sink};
 use crate::out_of_memory;
 use std::test::Fail;
 

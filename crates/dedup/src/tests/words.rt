@@ -1,3 +1,4 @@
+// What words ask for, as `clap` reads them.
 use crate::fault::Fault;
 use crate::words::read_words;
 use std::alloc::{AllocError, Global};

@@ -11,7 +11,8 @@ returns-in_err-asked-clause-ends g c =
     let words = texts c.args.words.now in
     let before = g.O.Sink.written c.args.out.now in
     let fault = c.in_err-asked.field-0.0 in
-    let refused : Ends told words before before (Err fault) =
-    Ends-unread told words before (is_command words) fault c.in_err-asked.ensures.refused in
+    let left = g.I.Inputs.left c.args.inputs.now in
+    let refused : Ends told words left before before (Err fault) =
+    Ends-unread told words left before (is_command words) fault c.in_err-asked.ensures.refused in
     let is : c.from_residual.result ≡ Err fault = search rules in
-    subst (Ends told words before before) (sym is) refused
+    subst (Ends told words left before before) (sym is) refused

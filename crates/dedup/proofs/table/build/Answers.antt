@@ -8,8 +8,8 @@ use Rattle.step_core.specs.Steps.{after_step}
 use Rattle.step_core.specs.declared.kinds.Step.TheVariants.{Draw, Write}
 use Rattle.step_core.specs.declared.format.TheConstants.{FIRST_KEY}
 use Rattle.step_core.proofs.seen.Drawn.{drawn, written, written_key, all_written}
-use Rattle.dedup.specs.Table.{IsRow, size_of}
-use Rattle.dedup.proofs.LawRow.{IsRow-drawn, old_keys}
+use Rattle.dedup.specs.Table.{IsRisingRow, size_of}
+use Rattle.dedup.proofs.LawRow.{IsRisingRow-drawn, old_keys}
 use Rattle.dedup.proofs.table.build.Goals as goal
 
 -- the first three words are written
@@ -32,8 +32,8 @@ loop-i-init c =
 -- the old row is as it was
 pub longer_at-key-requires-clause-row : goal.longer_at-key-requires-clause-row
 longer_at-key-requires-clause-row c =
-    subst (λ (r : ℕ). IsRow c.loop-i.words r) (sym c.requires.row)
-    (IsRow-drawn c.args.words.now c.loop-i.words _ _ c.requires.room c.loop-i.invariant)
+    subst (λ (r : ℕ). IsRisingRow c.loop-i.words r) (sym c.requires.row)
+    (IsRisingRow-drawn c.args.words.now c.loop-i.words _ _ c.requires.room c.loop-i.invariant)
 
 -- the old keys are as they were
 pub longer_at-key-requires-clause-place : goal.longer_at-key-requires-clause-place

@@ -7,8 +7,8 @@ use Rattle.step_core.specs.Format.{head_of, next_of, mutable_word}
 use Rattle.step_core.specs.Single.{only_row}
 use Rattle.step_core.specs.declared.format.TheConstants.{FIRST_BUCKET}
 use Rattle.step_core.proofs.seen.Drawn.{swapped}
-use Rattle.dedup.specs.Table.{IsRow, HasTaken}
-use Rattle.dedup.proofs.LawRow.{IsRow-only}
+use Rattle.dedup.specs.Table.{IsRisingRow, HasTaken}
+use Rattle.dedup.proofs.LawRow.{IsRisingRow-only}
 use Rattle.dedup.proofs.LawTable.{HasTaken-present, HasTaken-absent, MayReplace-longer}
 use Rattle.dedup.proofs.table.insert.Goals as goal
 
@@ -19,8 +19,8 @@ place_of-requires c =
     let same : c.load_bucket-found.new.words ≡ words = cc in
     let found : c.load_bucket-found.result ≡ slice_index words (head_of words + FIRST_BUCKET) = cc in
     let row : c.load_bucket-found.result / 2 ≡ only_row words = ap (λ (w : ℕ). w / 2) found in
-    subst (λ (w : List ℕ). IsRow w (c.load_bucket-found.result / 2)) (sym same)
-    (subst (λ (r : ℕ). IsRow words r) (sym row) (IsRow-only words c.requires))
+    subst (λ (w : List ℕ). IsRisingRow w (c.load_bucket-found.result / 2)) (sym same)
+    (subst (λ (r : ℕ). IsRisingRow words r) (sym row) (IsRisingRow-only words c.requires))
 
 -- the id is among its keys
 pub returns-in_default : goal.returns-in_default
@@ -43,8 +43,8 @@ build-start-requires-clause-is_row c =
     let same : c.place_of.new.words ≡ words = cc in
     let found : c.load_bucket-found.result ≡ slice_index words (head_of words + FIRST_BUCKET) = cc in
     let row : c.load_bucket-found.result / 2 ≡ only_row words = ap (λ (w : ℕ). w / 2) found in
-    subst (λ (w : List ℕ). IsRow w (c.load_bucket-found.result / 2)) (sym same)
-    (subst (λ (r : ℕ). IsRow words r) (sym row) (IsRow-only words c.requires))
+    subst (λ (w : List ℕ). IsRisingRow w (c.load_bucket-found.result / 2)) (sym same)
+    (subst (λ (r : ℕ). IsRisingRow words r) (sym row) (IsRisingRow-only words c.requires))
 
 -- the row with the id took the place of the old one
 pub returns : goal.returns

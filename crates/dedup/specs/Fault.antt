@@ -6,6 +6,10 @@ use Rattle.idfiles.specs.declared.fault.IdFault.TheVariants.{NoMemory, BadLine, 
 use Rattle.dedup.specs.declared.fault.Fault.{Fault}
 use Rattle.dedup.specs.declared.fault.Fault.TheVariants.{BadWords, Ids, Write}
 
+-- memory was refused
+abbrev pub no_memory : Fault
+no_memory = Ids NoMemory
+
 -- the status where memory was refused or the ids of the files aren't given
 abbrev pub status_of_ids : IdFault → ℕ
 status_of_ids NoMemory = 1

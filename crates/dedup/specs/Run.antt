@@ -5,6 +5,7 @@ use Rattle.std.specs.declared.alloc.Global.{Global}
 use Rattle.outside.specs.Faults.{Rose, one_more}
 use Rattle.outside.specs.Files.{Files}
 use Rattle.idfiles.specs.declared.id_record.IdRecord.{IdRecord}
+use Rattle.dedup.specs.Fault.{ending_line, status_of}
 use Rattle.dedup.specs.Inputs.{AreContents, SaysOf, run_fault, run_records}
 use Rattle.dedup.specs.Output.{text_of}
 use Rattle.dedup.specs.Records.{AreFirsts}
@@ -57,6 +58,14 @@ abbrev pub Said : List ℕ → ℕ → ℕ → Option (List ℕ) → Option (Lis
 Said text faults_before faults_now before now =
     ((faults_now ≡ faults_before) × Appends before now text)
     ⊎ (Rose faults_before faults_now × ((n : ℕ) × Appends before now (take n text)))
+
+-- a run with this status ended as it says, and the line that tells it was written
+abbrev pub EndsWith : ℕ → Option Files → List (List ℕ) → Option (List ℕ) → Option (List ℕ)
+    → Option (List ℕ) → ℕ → ℕ → Option (List ℕ) → Option (List ℕ) → Type 0
+EndsWith status told words left before now faults_before faults_now said_before said_now =
+    (ending : Result (Unit {0}) Fault) × (status ≡ status_of ending)
+    × Ends told words left before now ending
+    × Said (ending_line ending) faults_before faults_now said_before said_now
 
 -- the output of these files, or what refuses it
 abbrev pub Lists : Listing → List (List ℕ) → Option (List ℕ) → Result (Vec ℕ Global) Fault → Type 0

@@ -1,10 +1,9 @@
 // The run: from words to a status.
-ghost use Rattle.std.specs.Prelude.{◌≡◌, ◌≤◌, length, map, Err, Result};
-ghost use Rattle.dedup.specs.Fault.{ending_line, fault_line, status_of, status_of_fault};
+ghost use Rattle.std.specs.Prelude.{◌≡◌, ◌≤◌, length, map};
+ghost use Rattle.dedup.specs.Fault.{fault_line, no_memory, status_of, status_of_fault};
 ghost use Rattle.dedup.specs.Limits.{most_files};
-ghost use Rattle.dedup.specs.Run.{Ends, HasCauses, HasRead, ListsFiles, RoseAt, Said};
+ghost use Rattle.dedup.specs.Run.{Ends, EndsWith, HasCauses, HasRead, ListsFiles, RoseAt, Said};
 ghost use Rattle.dedup.specs.Words.{texts};
-ghost use Rattle.dedup.specs.declared.fault.Fault.{Fault};
 
 use crate::command::Command;
 use crate::fault::Fault;
@@ -39,11 +38,9 @@ pub fn run<R: Threads + Sync, I: Inputs, O: Sink, E: Sink, G: Gate>(
     _gate: &G,
 ) -> Ended
     ensures words { HasRead (texts words.now) result.status }
-    ensures ends { (ending : Result (Unit {0}) Fault) × (result.status ≡ status_of ending)
-        × Ends (I.files inputs.old) (texts words.now) (I.left inputs.new) (O.written out.old)
-        (O.written out.new) ending
-        × Said (ending_line ending) (E.faults faults.old) (E.faults faults.new)
-        (E.written faults.old) (E.written faults.new) }
+    ensures ends { EndsWith result.status (I.files inputs.old) (texts words.now)
+        (I.left inputs.new) (O.written out.old) (O.written out.new) (E.faults faults.old)
+        (E.faults faults.new) (E.written faults.old) (E.written faults.new) }
     ensures causes { HasCauses result.status
         (I.faults inputs.old) (I.faults inputs.new) (O.faults out.old) (O.faults out.new) }
 {
@@ -56,7 +53,7 @@ pub fn run<R: Threads + Sync, I: Inputs, O: Sink, E: Sink, G: Gate>(
 /// Ends a run whose words could not be had for want of memory: its line, and status 1.
 pub fn out_of_memory<E: Sink>(faults: &mut E) -> Ended
     ensures status { result.status ≡ 1 }
-    ensures line { Said (fault_line (Fault.Ids IdFault.NoMemory))
+    ensures line { Said (fault_line no_memory)
         (E.faults faults.old) (E.faults faults.new) (E.written faults.old) (E.written faults.new) }
 {
     report(faults, Fault::Ids(IdFault::NoMemory))

@@ -1,39 +1,18 @@
 //! The program `dedup`: its words, the system's files and its two outputs, handed to `dedup::run`.
+//!
+//! `main` hands over what the system gives, and can end with nothing but what `process` gives.
+//! `program::end` carries the contract of the run over to the status of the process.
 #![tactic(auto)]
 
-use dedup::{out_of_memory, run};
-use outside::{OpenGate, RealInputs, RealSink};
-use std::alloc::{AllocError, Global};
-use std::env;
-use std::io::ErrorKind;
-use std::process::ExitCode;
-use std::rt::Env;
+mod process;
+mod program;
 
-fn main(rt: HostRuntime) -> ExitCode {
-    let alloc = rt.alloc();
-    let mut inputs = RealInputs::new(&rt);
-    let mut out = RealSink::over(rt.stdout());
-    let mut faults = RealSink::over(rt.stderr());
-    let ended = match words(&rt, alloc) {
-        Ok(words) => run(
-            &rt,
-            alloc,
-            &words,
-            &mut inputs,
-            &mut out,
-            &mut faults,
-            &OpenGate,
-        ),
-        Err(AllocError) => out_of_memory(&mut faults),
-    };
-    ExitCode::from(ended.status)
+use process::process;
+use program::Finished;
+
+fn main(rt: HostRuntime) -> Finished {
+    process(&rt, &rt, rt.stdout(), rt.stderr())
 }
 
-// The words that the program was given. Where one isn't UTF-8 there are none, which is no command.
-fn words(rt: &(impl Env + AllocGlobal), alloc: Global) -> Result<Vec<String>, AllocError> {
-    match env::args(rt) {
-        Ok(words) => words.collect(alloc),
-        Err(error) if error.kind() == ErrorKind::InvalidData => Ok(Vec::new(alloc)),
-        Err(_) => Err(AllocError),
-    }
-}
+#[cfg(test)]
+mod tests;

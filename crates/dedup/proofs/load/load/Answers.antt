@@ -44,6 +44,6 @@ loop-place-preserved g c =
     record {
       loaded = subst (HasLoaded told names (c.loop-place.place + 1))
           (sym (c.in_ok-extend_from_slice.ensures.items ∙ ap (λ k. records ++ k) c.deref.ensures.value)) more;
-      kept = c.in_ok-more.ensures.cause ∙ so_far.kept;
-      files = c.in_ok-more.ensures.files ∙ so_far.files;
+      kept = c.in_ok-more.ensures.cause ∙ c.loop-place.invariant.kept;
+      files = c.in_ok-more.ensures.files ∙ c.loop-place.invariant.files;
     }

@@ -3,17 +3,27 @@ use crate::program::{Finished, end};
 use outside::{RealInputs, RealSink};
 use std::alloc::{AllocError, Global};
 use std::env;
-use std::io::{ErrorKind, Write};
+use std::io::{ErrorKind, Stderr, Stdout, Write};
 use std::rt::{Env, Files};
 use std::thread::Threads;
+
+/// Where the list may go: of the system's outputs the standard output alone.
+pub(crate) trait Output: Write + Drop {}
+
+impl Output for Stdout {}
+
+/// Where the line of a fault may go: of the system's outputs the standard error alone.
+pub(crate) trait FaultOutput: Write + Drop {}
+
+impl FaultOutput for Stderr {}
 
 /// Runs over the words of this environment and over the files of this runtime.
 pub(crate) fn process<V, R, O, E>(env: &V, rt: &R, out: O, faults: E) -> Finished
 where
     V: Env + AllocGlobal,
     R: Threads + Sync + AllocGlobal + Files,
-    O: Write + Drop,
-    E: Write + Drop,
+    O: Output,
+    E: FaultOutput,
 {
     let mut inputs = RealInputs::new(rt);
     let mut out = RealSink::over(out);

@@ -1,9 +1,9 @@
 // What no clause says of the process: that its words are those that it was given, and that its
 // files and outputs are the system's.
-use crate::process::process;
+use crate::process::{FaultOutput, Output, process};
 use std::alloc::Global;
 use std::env::FillError;
-use std::fs::{self, OpenOptions};
+use std::fs::{self, File, OpenOptions};
 use std::io::{self, Write};
 use std::process::{ExitCode, Termination};
 use std::rt::Env;
@@ -78,6 +78,12 @@ impl Write for Page {
         Ok(())
     }
 }
+
+impl<'a> Output for &'a mut Page {}
+
+impl<'a> FaultOutput for &'a mut Page {}
+
+impl Output for File {}
 
 #[test]
 fn a_process_ends_as_its_run(rt: HostRuntime) -> Result<(), Fail> {

@@ -1,5 +1,9 @@
+pub mod LawDigits
 pub mod LawJudged
 pub mod LawLegal
+pub mod LawLines
 pub mod LawMembers
+pub mod LawTrim
 pub mod LoopOrder
 pub mod LoopPrevious
+pub mod LoopRead

@@ -2,11 +2,20 @@
 #![tactic(auto)]
 
 mod claimed;
+mod fault;
+mod line;
+mod log;
 mod members;
+mod number;
 mod order;
 mod previous;
+mod print;
+mod program;
+mod read;
+mod trim;
 mod verdict;
 
 pub use claimed::Claimed;
 pub use order::check_order;
+pub use program::{certify, out_of_memory};
 pub use verdict::Verdict;

@@ -1,8 +1,11 @@
+pub mod LawContent
 pub mod LawDigits
+pub mod LawFound
 pub mod LawJudged
 pub mod LawLegal
 pub mod LawLines
 pub mod LawMembers
+pub mod LawTight
 pub mod LawTrim
 pub mod LoopOrder
 pub mod LoopPrevious

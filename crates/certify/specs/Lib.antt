@@ -1,4 +1,5 @@
 pub mod Ending
+pub mod Grammar
 pub mod Judging
 pub mod Line
 pub mod Log

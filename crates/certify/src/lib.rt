@@ -3,6 +3,7 @@
 
 mod claimed;
 mod fault;
+mod grammar;
 mod line;
 mod log;
 mod members;
@@ -16,6 +17,10 @@ mod trim;
 mod verdict;
 
 pub use claimed::Claimed;
+pub use grammar::each_line_is_one_thing;
 pub use order::check_order;
 pub use program::{certify, out_of_memory};
 pub use verdict::Verdict;
+
+#[cfg(test)]
+mod tests;

@@ -32,7 +32,8 @@ digits_value-safe text i most within digits =
     omega arith
 
 -- a digit behind a front of digits makes it one digit longer
-pub digits_more : (text : List ℕ) (i : ℕ) → i < length text → list_all is_ascii_digit (take i text) ≡ true → is_ascii_digit (get_or text i 0) ≡ true
+pub digits_more : (text : List ℕ) (i : ℕ) → i < length text → list_all is_ascii_digit (take i text) ≡ true
+    → is_ascii_digit (get_or text i 0) ≡ true
     → list_all is_ascii_digit (take (i + 1) text) ≡ true
 digits_more text i within digits ten = list_all_more is_ascii_digit text i 0 within ∙ rw (digits, ten) refl
 
@@ -89,7 +90,8 @@ module _ (most : ℕ) (text : List ℕ) (some : 0 < length text) where
         ap (λ (t : List ℕ). digits_value 10 t) (sym all) ∙ value_more text (length text - 1) under ten
         ∙ ap (λ (n : ℕ). n * 10 + (last - 48)) (sym is) in
         let past : value * 10 + (last - 48) < 2 ^ 64 → ⊥ = λ fits. refused (ten, fits) in
-        let large : 2 ^ 64 ≤ digits_value 10 text = rw amount (elim (cases_lt (value * 10 + (last - 48)) (2 ^ 64)) [ inl fits ↦ absurd (past fits) | inr over ↦ over ]) in
+        let large : 2 ^ 64 ≤ digits_value 10 text = rw amount
+        (elim (cases_lt (value * 10 + (last - 48)) (2 ^ 64)) [ inl fits ↦ absurd (past fits) | inr over ↦ over ]) in
         let t1 : nat_lt 0 (length text) ≡ true = grind (arith, nat_tests) in
         let t2 : nat_le (length text) most ≡ true = grind (arith, nat_tests) in
         let t3 : nat_lt (digits_value 10 text) (2 ^ 64) ≡ false = grind (arith, nat_tests) in

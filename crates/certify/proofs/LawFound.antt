@@ -11,7 +11,8 @@ use Rattle.certify.specs.declared.claimed.Claimed.{Claimed}
 use Rattle.certify.specs.declared.line.Line.{Line}
 use Rattle.certify.specs.declared.line.Line.TheVariants.{Blank, Claim, Order, Number, Bad}
 use Rattle.certify.proofs.LawTight.{says_trimmed, trimmed-tight, trimmed-nothing}
-use Rattle.certify.proofs.LawContent.{same_bytes, given, mapped, number_written, three_words, number_tight, order_tight, call_tight, found}
+use Rattle.certify.proofs.LawNumber.{same_bytes, given, mapped, number_written, number_tight}
+use Rattle.certify.proofs.LawContent.{three_words, order_tight, call_tight, found}
 
 -- the parts round the first space
 split_found : (text : List ℕ) (parts : List ℕ × List ℕ) → split_once text ≡ Some parts → text ≡ parts.0 ++ 32 ∷ parts.1
@@ -103,7 +104,8 @@ answer_written word answer h = first (bytes_eq word (codes "true")) refl where
 
 call_written_in : (text : List ℕ) (claimed : Claimed) → claimed_in text ≡ Some claimed → WritesCall text claimed
 call_written_in text claimed h =
-    let first = given (λ (p : List ℕ × List ℕ). option_and_then (λ (q : List ℕ × List ℕ). claimed_by p.0 q.0 q.1) (split_once p.1)) (split_once text) claimed h in
+    let first = given (λ (p : List ℕ × List ℕ). option_and_then (λ (q : List ℕ × List ℕ). claimed_by p.0 q.0 q.1) (split_once p.1))
+    (split_once text) claimed h in
     let who = first.value.0 in
     let second = given (λ (q : List ℕ × List ℕ). claimed_by who q.0 q.1) (split_once first.value.1) claimed first.gives in
     let asked = second.value.0 in

@@ -77,7 +77,8 @@ module _ (calls : List Claimed) (earlier : List ℕ) (seen : List Bool) (members
     ]
 
   -- a call is early where the last one of its caller stands at no earlier place
-  pub is_early : (number before : ℕ) → 0 < number → number ≤ length calls → IsLast (callers calls) (number - 1) (caller_of calls number) before
+  pub is_early : (number before : ℕ) → 0 < number → number ≤ length calls
+      → IsLast (callers calls) (number - 1) (caller_of calls number) before
       → (0 < before) × (slice_index_or seen (before - 1) false ≡ false) → IsEarly calls earlier number
   is_early number before some within last unseen = record {
     smaller = before;
@@ -105,7 +106,8 @@ entry_numbered-Some calls (suc index) claimed some h =
     rw (e, h') refl
 
 -- a number among some and one more
-pub is_in-push : (earlier : List ℕ) (number other : ℕ) → is_in (earlier ++ number ∷ []) other ≡ (is_in earlier other || (number == other || false))
+pub is_in-push : (earlier : List ℕ) (number other : ℕ)
+    → is_in (earlier ++ number ∷ []) other ≡ (is_in earlier other || (number == other || false))
 is_in-push earlier number other = list_any-append (λ y. nat_eq y other) earlier (number ∷ [])
 
 or_true : (b : Bool) → (b || true) ≡ true
@@ -172,11 +174,13 @@ module _ (calls : List Claimed) (earlier : List ℕ) (seen : List Bool) (members
       | inl here ↦
           let is : number ≡ k + 1 = omega arith in
           let equal : (number == k + 1) ≡ true = grind (arith, nat_tests) in
-          rw here at_number ∙ sym (is_in-push earlier number (k + 1) ∙ ap (λ b. is_in earlier (k + 1) || (b || false)) equal ∙ or_true (is_in earlier (k + 1)))
+          rw here at_number ∙ sym (is_in-push earlier number (k + 1) ∙ ap (λ b. is_in earlier (k + 1) || (b || false)) equal
+          ∙ or_true (is_in earlier (k + 1)))
       | inr apart ↦
           let equal : (number == k + 1) ≡ false = grind (arith, nat_tests) in
           beside k apart ∙ judged.flags k under
-          ∙ sym (is_in-push earlier number (k + 1) ∙ ap (λ b. is_in earlier (k + 1) || (b || false)) equal ∙ or_false (is_in earlier (k + 1)))
+          ∙ sym (is_in-push earlier number (k + 1) ∙ ap (λ b. is_in earlier (k + 1) || (b || false)) equal
+          ∙ or_false (is_in earlier (k + 1)))
     ]
 
     -- an earlier call of its caller has its flag

@@ -1,14 +1,11 @@
 -- The verdict is legal exactly where the order has each call once, keeps each caller's order, and its calls are a legal history.
-use Rattle.std.proofs.Common.{◌≡◌, ◌≢◌, ◌↔◌, ℕ, zero, suc, ◌+◌, ◌-◌, ◌<◌, ◌≤◌, ◌==◌, nat_eq, Bool, true, false, ◌||◌, List, [], ◌∷◌, ◌++◌, length, take, drop, get_or, slice_index, Option, Some, inl, inr, refl, sym, ap, ◌∙◌, subst, arith, drop-cons}
+use Rattle.std.proofs.Common.{◌≡◌, ◌≢◌, ◌↔◌, ℕ, zero, suc, ◌+◌, ◌-◌, ◌<◌, ◌≤◌, Bool, true, false, List, [], ◌∷◌, ◌++◌, length, take, drop, get_or, slice_index, Option, Some, inl, inr, refl, sym, ap, ◌∙◌, subst, arith, drop-cons}
 use Rattle.std.specs.Option.{option_to_list}
-use Rattle.std.specs.Ordering.{nat_cmp}
 use Rattle.std.specs.FinSet as fin
-use Rattle.std.proofs.lemmas.Bool.Decides.{nat_tests}
 use Rattle.std.proofs.lemmas.Bool.{cases_eq, cases_lt}
-use Rattle.std.proofs.lemmas.List.{take-append-drop, get_or-take, length-take}
+use Rattle.std.proofs.lemmas.List.{take-append-drop}
 use Rattle.std.proofs.Math.Seq.{take-suc, take-length}
-use Rattle.std.proofs.lemmas.List.Folds.{list_any_at}
-use Rattle.set_model.specs.Call.{answer_of, set_after_call}
+use Rattle.set_model.specs.Call.{answer_of}
 use Rattle.set_model.specs.History.{set_after, IsLegalFrom}
 use Rattle.set_model.specs.Keys.{is_in}
 use Rattle.set_model.specs.declared.call.Call.TheVariants as call
@@ -19,65 +16,7 @@ use Rattle.certify.specs.declared.claimed.Claimed.{Claimed}
 use Rattle.certify.specs.declared.verdict.Verdict.{Verdict}
 use Rattle.certify.specs.declared.verdict.Verdict.TheVariants.{Legal, Unknown, Repeated, Early, Wrong, Missing}
 use Rattle.certify.proofs.LawJudged.{history_of-append, entry_numbered-Some, claimed_at}
-
--- two histories put together are legal where the first is, and the second is from what the first leaves
-IsLegalFrom-append : (keys : fin.FinSet nat_cmp) (first second : List Entry)
-    → IsLegalFrom keys (first ++ second) ↔ (IsLegalFrom keys first × IsLegalFrom (set_after keys first) second)
-IsLegalFrom-append keys [] second = (λ legal. (tt, legal), λ both. both.1)
-IsLegalFrom-append keys (entry ∷ first) second =
-    let further = IsLegalFrom-append (set_after_call entry.call entry.key keys) first second in (
-      λ legal. ((legal.0, (further.0 legal.1).0), (further.0 legal.1).1),
-      λ both. (both.0.0, further.1 (both.0.1, both.1)),
-    )
-
--- a number among some stands at one of their places
-abbrev Found : List ℕ → ℕ → Type 0
-Found numbers number = (index : ℕ) × (index < length numbers) × (slice_index numbers index ≡ number)
-
-found_at : (numbers : List ℕ) (number : ℕ) → is_in numbers number ≡ true → Found numbers number
-found_at [] number h = absurd (let e : false ≡ true = h in cc)
-found_at (first ∷ numbers) number h = go (λ rest. found_at numbers number rest) (first == number) refl where
-  go : (is_in numbers number ≡ true → Found numbers number) → (here : Bool) → (first == number) ≡ here → Found (first ∷ numbers) number
-  go more true e = (0, omega arith, let is : first ≡ number = grind (arith, nat_tests) in is)
-  go more false e =
-      let rest = more (sym (ap (λ b. b || is_in numbers number) e) ∙ h) in
-      (suc rest.0, (let under = rest.1 in omega arith), rest.2)
-
-module _ (order : List ℕ) where
-  -- a number at an earlier place is among those before
-  among_earlier : (place earlier : ℕ) → IsPlace order place → IsPlace order earlier → earlier < place
-      → is_in (numbers_before order place) (number_at order earlier) ≡ true
-  among_earlier place earlier there before under =
-      let h0 = before.0 in let h1 = before.1 in
-      let here : earlier - 1 < place - 1 = omega arith in
-      let size = length-take (place - 1) order in
-      let within : earlier - 1 < length (take (place - 1) order) = (let p = there.1 in omega arith) in
-      let is : slice_index (take (place - 1) order) (earlier - 1) ≡ number_at order earlier = get_or-take (place - 1) order (earlier - 1) 0 here in
-      let itself : (slice_index (take (place - 1) order) (earlier - 1) == number_at order earlier) ≡ true = grind (arith, nat_tests) in
-      list_any_at (λ y. nat_eq y (number_at order earlier)) (take (place - 1) order) (earlier - 1) 0 within itself
-
-  -- a number among those before stands at an earlier place
-  earlier_place : (place number : ℕ) → IsPlace order place → is_in (numbers_before order place) number ≡ true
-      → (earlier : ℕ) × IsPlace order earlier × (earlier < place) × (number_at order earlier ≡ number)
-  earlier_place place number there h =
-      let at = found_at (numbers_before order place) number h in
-      let size = length-take (place - 1) order in
-      let under = at.1 in
-      let p = there.1 in
-      let short : at.0 < place - 1 = omega arith in
-      let back : (at.0 + 1) - 1 ≡ at.0 = omega arith in
-      (at.0 + 1, (omega arith, omega arith), omega arith, rw back (sym (get_or-take (place - 1) order at.0 0 short) ∙ at.2))
-
-  -- a number at a place is among all, and the other way round
-  among_all : (place : ℕ) → IsPlace order place → is_in order (number_at order place) ≡ true
-  among_all place there = list_any_at (λ y. nat_eq y (number_at order place)) order (place - 1) 0 (let h = there.0 in let k = there.1 in omega arith)
-      (let e : (number_at order place == number_at order place) ≡ true = grind (arith, nat_tests) in e)
-
-  place_of_all : (number : ℕ) → is_in order number ≡ true → (place : ℕ) × IsPlace order place × (number_at order place ≡ number)
-  place_of_all number h =
-      let at = found_at order number h in
-      let back : (at.0 + 1) - 1 ≡ at.0 = omega arith in
-      (at.0 + 1, (omega arith, (let under = at.1 in omega arith)), rw back at.2)
+use Rattle.certify.proofs.LawPlaces.{IsLegalFrom-append, among_earlier, earlier_place, among_all, place_of_all}
 
 -- a call to read past the last one
 blank : Claimed
@@ -102,9 +41,11 @@ module _ (calls : List Claimed) (order : List ℕ) where
     fine_at : (place : ℕ) → IsPlace order place → IsFine calls (numbers_before order place) (number_at order place)
     fine_at place there = fine place there.0 there.1
 
-    once_before : (place other : ℕ) → IsPlace order place → IsPlace order other → number_at order place ≡ number_at order other → place < other → ⊥
+    once_before : (place other : ℕ) → IsPlace order place → IsPlace order other → number_at order place ≡ number_at order other
+        → place < other → ⊥
     once_before place other there then same under =
-        (fine_at other then).once (ap (λ n. is_in (numbers_before order other) n) (sym same) ∙ among_earlier order other place then there under)
+        (fine_at other then).once (ap (λ n. is_in (numbers_before order other) n) (sym same)
+        ∙ among_earlier order other place then there under)
 
     once : (place other : ℕ) → IsPlace order place → IsPlace order other → number_at order place ≡ number_at order other → place ≡ other
     once place other there then same = elim (cases_lt place other) [
@@ -124,7 +65,8 @@ module _ (calls : List Claimed) (order : List ℕ) where
         | inr apart ↦ absurd (go (is_in (numbers_before order place) (number_at order later)) refl (omega arith))
       ]
     ] where
-      go : (before : Bool) → is_in (numbers_before order place) (number_at order later) ≡ before → number_at order later < number_at order place → ⊥
+      go : (before : Bool) → is_in (numbers_before order place) (number_at order later) ≡ before
+          → number_at order later < number_at order place → ⊥
       go true e below =
           let at = earlier_place order place (number_at order later) there e in
           once_before at.0 later at.1 then at.3 (let first = at.2 in omega arith)
@@ -166,7 +108,8 @@ module _ (calls : List Claimed) (order : List ℕ) where
         let back : place - 1 ≡ count = omega arith in
         let right = right_at place there in
         let more : take (suc count) order ≡ take count order ++ slice_index order count ∷ [] = take-suc order count 0 under in
-        let numbered : entry_numbered calls (slice_index order count) ≡ Some at.0 = ap (λ (n : ℕ). entry_numbered calls (slice_index order n)) (sym back) ∙ at.1 in
+        let numbered : entry_numbered calls (slice_index order count) ≡ Some at.0 = ap
+        (λ (n : ℕ). entry_numbered calls (slice_index order n)) (sym back) ∙ at.1 in
         let history : history_of calls (take (suc count) order) ≡ history_of calls (take count order) ++ at.0 ∷ [] =
         ap (history_of calls) more ∙ history_of-append calls (take count order) (slice_index order count ∷ [])
         ∙ ap (λ (o : Option Entry). history_of calls (take count order) ++ (option_to_list o ++ [])) numbered in
@@ -181,7 +124,8 @@ module _ (calls : List Claimed) (order : List ℕ) where
       once = once;
       each = λ number some within. place_of_all order number (stand number some (omega arith));
       callers = in_order;
-      legal = subst (λ (numbers : List ℕ). IsLegalFrom fin.empty (history_of calls numbers)) (take-length order) (legal_to (length order) (omega arith));
+      legal = subst (λ (numbers : List ℕ). IsLegalFrom fin.empty (history_of calls numbers)) (take-length order)
+          (legal_to (length order) (omega arith));
     }
 
   module _ (legal : IsLegalOrder calls order) where
@@ -228,10 +172,13 @@ module _ (calls : List Claimed) (order : List ℕ) where
         let under : index < length order = omega arith in
         let cut : order ≡ take index order ++ slice_index order index ∷ drop (suc index) order =
         sym (take-append-drop index order) ∙ ap (λ (tail : List ℕ). take index order ++ tail) (drop-cons order index 0 under) in
-        let history : history_of calls order ≡ history_of calls (take index order) ++ (wrong.entry ∷ history_of calls (drop (suc index) order)) =
+        let history : history_of calls order ≡ history_of calls (take index order) ++
+        (wrong.entry ∷ history_of calls (drop (suc index) order)) =
         ap (history_of calls) cut ∙ history_of-append calls (take index order) (slice_index order index ∷ drop (suc index) order)
-        ∙ ap (λ (o : Option Entry). history_of calls (take index order) ++ (option_to_list o ++ history_of calls (drop (suc index) order))) wrong.numbered in
-        wrong.wrong ((IsLegalFrom-append fin.empty (history_of calls (take index order)) (wrong.entry ∷ history_of calls (drop (suc index) order))).0
+        ∙ ap (λ (o : Option Entry). history_of calls (take index order) ++
+        (option_to_list o ++ history_of calls (drop (suc index) order))) wrong.numbered in
+        wrong.wrong ((IsLegalFrom-append fin.empty (history_of calls (take index order))
+        (wrong.entry ∷ history_of calls (drop (suc index) order))).0
         (subst (IsLegalFrom fin.empty) history legal.legal)).1.0
 
     legal_verdict : (v : Verdict) → IsVerdict calls order v → v ≡ Legal

@@ -86,7 +86,8 @@ pub record IsTight (rest : List ℕ) : Type 0 where
   pub no_cr : (last == cr) ≡ false
 
 -- blanks behind bytes that end in no CR
-keeps_blanks : (bytes blanks : List ℕ) → list_all is_blank blanks ≡ true → without_cr bytes ≡ bytes → without_cr (bytes ++ blanks) ≡ bytes ++ blanks
+keeps_blanks : (bytes blanks : List ℕ) → list_all is_blank blanks ≡ true → without_cr bytes ≡ bytes
+    → without_cr (bytes ++ blanks) ≡ bytes ++ blanks
 keeps_blanks bytes [] blank kept = ap without_cr (append-nil bytes) ∙ kept ∙ sym (append-nil bytes)
 keeps_blanks bytes (b ∷ blanks) blank kept =
     let parts = true_first (is_blank b) (list_all is_blank blanks) blank in
@@ -123,7 +124,8 @@ module _ (text rest : List ℕ) (says : Says text rest) where
   step_one : without_cr (says.before ++ rest) ≡ says.before ++ rest → without_cr text ≡ says.before ++ rest ++ says.after
   step_one kept =
       ap without_cr says.is
-      ∙ drops_ending ((says.before ++ rest) ++ says.after) says.ending says.ends (keeps_blanks (says.before ++ rest) says.after says.blank_after kept)
+      ∙ drops_ending ((says.before ++ rest) ++ says.after) says.ending says.ends
+      (keeps_blanks (says.before ++ rest) says.after says.blank_after kept)
 
   -- what a line says is left of it
   pub trimmed-tight : IsTight rest → trimmed text ≡ rest

@@ -5,6 +5,8 @@ pub mod LawJudged
 pub mod LawLegal
 pub mod LawLines
 pub mod LawMembers
+pub mod LawNumber
+pub mod LawPlaces
 pub mod LawTight
 pub mod LawTrim
 pub mod LoopOrder

@@ -25,7 +25,8 @@ unset (suc count) (suc k) = unset count k
 
 -- flags in a vector, behind a loan of them all
 pub lent_back : (count : ℕ) (new old : List Bool) → length new ≡ count → take count (new ++ drop (length new) old) ≡ new
-lent_back count new old size = ap (λ (n : ℕ). take n (new ++ drop (length new) old)) (sym size) ∙ take-append_seam new (drop (length new) old)
+lent_back count new old size = ap (λ (n : ℕ). take n (new ++ drop (length new) old)) (sym size)
+    ∙ take-append_seam new (drop (length new) old)
 
 -- no call was judged yet
 pub none_judged : (calls : List Claimed) (seen : List Bool) (members : HashSet ℕ (BuildHasherDefault FoldHasher))

@@ -9,7 +9,12 @@ use Rattle.certify.specs.declared.claimed.Claimed.{Claimed}
 
 -- no call is made yet
 pub last_of_none : (callers : List ℕ) (who : ℕ) → IsLast callers 0 who 0
-last_of_none callers who = record { within = omega arith; made_by = λ some. absurd (omega arith); none = λ k from below. absurd (omega arith) }
+last_of_none callers who = record {
+  within = omega arith;
+  made_by = λ some. absurd (omega arith);
+  none = λ k from below. absurd
+      (omega arith);
+}
 
 -- the call is its caller's last one then
 last_same : (callers : List ℕ) (index who : ℕ) → slice_index callers index ≡ who → IsLast callers (index + 1) who (index + 1)
@@ -45,7 +50,8 @@ last_goes_on callers index who old new made updates last q = go (who == q) refl 
       rw is (last_other callers index q (unwrap_or (old q) 0) apart (last q))
 
 -- who made the call at an index
-pub caller_at : (calls : List Claimed) (k : ℕ) (blank : Claimed) → k < length calls → slice_index (callers calls) k ≡ (get_or calls k blank).who
+pub caller_at : (calls : List Claimed) (k : ℕ) (blank : Claimed) → k < length calls
+    → slice_index (callers calls) k ≡ (get_or calls k blank).who
 caller_at calls k blank within = get_or-map (λ (c : Claimed). c.who) calls k blank 0 within
 
 -- what the list says of each call so far, with one more

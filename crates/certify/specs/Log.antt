@@ -51,11 +51,13 @@ numbers_of (Bad ∷ lines) = numbers_of lines
 
 -- one line more was taken into a log: whatever lines follow it, their calls, numbers and first bad
 -- line are those that they are behind the lines before
-pub record TakesLine (number : ℕ) (line : Line) (behind now_behind : Bool) (calls now_calls : List Claimed)
-    (order now_order : List ℕ) : Type 0 where
-  pub bad : (rest : List Line) → bad_from behind number (line ∷ rest) ≡ bad_from now_behind (number + 1) rest
+pub record TakesLine (number : ℕ) (line : Line) (behind now_behind : Bool)
+    (calls now_calls : List Claimed) (order now_order : List ℕ) : Type 0 where
+  pub bad : (rest : List Line)
+      → bad_from behind number (line ∷ rest) ≡ bad_from now_behind (number + 1) rest
   pub claims : (rest : List Line) → calls ++ calls_of (line ∷ rest) ≡ now_calls ++ calls_of rest
-  pub numbers : (rest : List Line) → order ++ numbers_of (line ∷ rest) ≡ now_order ++ numbers_of rest
+  pub numbers : (rest : List Line)
+      → order ++ numbers_of (line ∷ rest) ≡ now_order ++ numbers_of rest
 
 -- why a line isn't taken: for want of memory, or since it may not stand there
 abbrev pub IsRefused : ℕ → Line → Bool → Fault → Type 0

@@ -1,4 +1,5 @@
--- What is wrong with a number at a place of an order, by the calls, the numbers at the earlier places, and the plain set.
+-- What is wrong with a number at a place of an order, by the calls, the numbers at the earlier
+-- places, and the plain set.
 use Rattle.std.specs.Prelude.{◌≡◌, ◌≢◌, ◌⊎◌, ℕ, zero, suc, ◌-◌, ◌<◌, ◌≤◌, true, false, ◌==◌, List, [], ◌∷◌, ◌++◌, length, map, count_by, take, slice_index, Option, None, Some}
 use Rattle.std.specs.List.{slice_get}
 use Rattle.std.specs.Option.{option_map, option_to_list}
@@ -82,7 +83,8 @@ FirstWrong calls earlier number =
     (¬ IsUnknown calls number) × (¬ IsRepeated earlier number) × (¬ IsEarly calls earlier number)
     × IsWrong calls earlier number
 
--- among the first so many calls the last of this caller, by its number from 1, or 0 where there is none
+-- among the first so many calls the last of this caller, by its number from 1, or 0 where there is
+-- none
 pub record IsLast (callers : List ℕ) (count caller number : ℕ) : Type 0 where
   pub within : number ≤ count
   pub made_by : 0 < number → slice_index callers (number - 1) ≡ caller

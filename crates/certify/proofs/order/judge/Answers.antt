@@ -11,7 +11,8 @@ blank = record { who = 0; call = Insert; key = 0; answer = false }
 pub returns-then-seen-index-clause-judged : goal.returns-then-seen-index-clause-judged
 returns-then-seen-index-clause-judged c = λ earlier judged. (
   λ unknown. elim unknown [ inl none ↦ absurd (omega arith) | inr past ↦ absurd (omega arith) ],
-  sym (flag c.args.calls.now earlier c.args.seen.now c.args.members.now judged c.args.number (omega arith) (omega arith)) ∙ c.if-seen-index.true,
+  sym (flag c.args.calls.now earlier c.args.seen.now c.args.members.now judged c.args.number (omega arith) (omega arith))
+      ∙ c.if-seen-index.true,
 )
 
 -- the last call of its caller stands at no earlier place
@@ -19,7 +20,8 @@ pub returns-then-is_unseen-clause-judged : goal.returns-then-is_unseen-clause-ju
 returns-then-is_unseen-clause-judged c = λ earlier judged.
     let k = c.args.number - 1 in
     let calls = c.args.calls.now in
-    let before = known_once calls earlier c.args.seen.now c.args.members.now judged c.args.number (omega arith) (omega arith) c.if-seen-index.false in (
+    let before = known_once calls earlier c.args.seen.now c.args.members.now judged c.args.number (omega arith)
+    (omega arith) c.if-seen-index.false in (
       before.0,
       before.1,
       is_early calls earlier c.args.seen.now c.args.members.now judged c.args.number (slice_index c.args.previous.now k)
@@ -31,8 +33,10 @@ pub returns-then-branch-claimed-clause-judged : goal.returns-then-branch-claimed
 returns-then-branch-claimed-clause-judged c = λ earlier judged.
     let k = c.args.number - 1 in
     let calls = c.args.calls.now in
-    let before = known_once calls earlier c.args.seen.now c.args.members.now judged c.args.number (omega arith) (omega arith) c.if-seen-index.false in
-    let ready = not_early calls earlier c.args.seen.now c.args.members.now judged c.args.number (slice_index c.args.previous.now k) (omega arith)
+    let before = known_once calls earlier c.args.seen.now c.args.members.now judged c.args.number (omega arith)
+    (omega arith) c.if-seen-index.false in
+    let ready = not_early calls earlier c.args.seen.now c.args.members.now judged c.args.number (slice_index c.args.previous.now k)
+    (omega arith)
     (c.requires.last k (omega arith)) c.if-is_unseen.ensures in (
       before.0,
       before.1,
@@ -47,7 +51,8 @@ pub returns-clause-judged : goal.returns-clause-judged
 returns-clause-judged c = λ earlier judged.
     let k = c.args.number - 1 in
     let calls = c.args.calls.now in
-    let ready = not_early calls earlier c.args.seen.now c.args.members.now judged c.args.number (slice_index c.args.previous.now k) (omega arith)
+    let ready = not_early calls earlier c.args.seen.now c.args.members.now judged c.args.number (slice_index c.args.previous.now k)
+    (omega arith)
     (c.requires.last k (omega arith)) c.if-is_unseen.ensures in
     fine calls earlier c.args.seen.now c.args.members.now judged c.args.number (get_or calls k blank)
     (omega arith) (omega arith) (claimed_at calls k blank (omega arith))
@@ -58,7 +63,8 @@ pub returns-clause-goes_on : goal.returns-clause-goes_on
 returns-clause-goes_on c = λ is earlier judged.
     let k = c.args.number - 1 in
     let calls = c.args.calls.now in
-    let ready = not_early calls earlier c.args.seen.now c.args.members.now judged c.args.number (slice_index c.args.previous.now k) (omega arith)
+    let ready = not_early calls earlier c.args.seen.now c.args.members.now judged c.args.number (slice_index c.args.previous.now k)
+    (omega arith)
     (c.requires.last k (omega arith)) c.if-is_unseen.ensures in
     goes_on calls earlier c.args.seen.now c.args.members.now judged c.args.number (get_or calls k blank)
     (omega arith) (omega arith) (claimed_at calls k blank (omega arith))

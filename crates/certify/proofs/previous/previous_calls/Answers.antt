@@ -22,6 +22,7 @@ loop-index-preserved c =
       before = rw c.in_ok-push.ensures.items (before_goes_on (callers c.args.calls.now) c.loop-index.previous.items k c.unwrap_or.result
           (omega (arith, c.loop-index.previous.ok, c.loop-index.invariant.count))
           c.loop-index.invariant.before last);
-      last = last_goes_on (callers c.args.calls.now) k (get_or c.args.calls.now k blank).who (get nat_eq c.loop-index.last) (get nat_eq c.insert.new.self) made
+      last = last_goes_on (callers c.args.calls.now) k (get_or c.args.calls.now k blank).who (get nat_eq c.loop-index.last)
+          (get nat_eq c.insert.new.self) made
           c.in_ok-before.ensures.updates.0 c.loop-index.invariant.last;
     }

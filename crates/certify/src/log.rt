@@ -1,9 +1,7 @@
 // A log in the bytes of its file.
-ghost use Rattle.std.specs.Prelude.{◌≡◌, ◌++◌, ◌+◌, ◌^◌, ◌<◌, ◌≤◌, ◌∷◌, [], false, length, Err, IfErr, IfOk, OnOk};
+ghost use Rattle.std.specs.Prelude.{◌≡◌, ◌<◌, ◌≤◌, ◌∷◌, length, IfErr, OnOk};
 ghost use Rattle.certify.specs.Log.{IsRefused, ReadsLog, TakesLine};
-ghost use Rattle.certify.specs.Trim.{cut_lines, lf};
-ghost use Rattle.certify.specs.declared.fault.Fault.TheVariants.{BadLine, NoMemory};
-ghost use Rattle.certify.specs.declared.fault.TheConstants.{MAX_BYTES};
+ghost use Rattle.certify.specs.Trim.{cut_lines};
 
 use crate::Claimed;
 use crate::fault::{Fault, MAX_BYTES};

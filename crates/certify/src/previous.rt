@@ -1,5 +1,5 @@
 // Which call each caller made before.
-ghost use Rattle.std.specs.Prelude.{◌≡◌, ℕ, ◌<◌, map, length, slice_index, vec_len, IfOk};
+ghost use Rattle.std.specs.Prelude.{◌≡◌, ℕ, ◌<◌, length, slice_index, vec_len, IfOk};
 ghost use Rattle.certify.specs.Place.{IsLast, callers};
 
 use crate::Claimed;

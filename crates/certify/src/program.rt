@@ -1,5 +1,4 @@
-ghost use Rattle.std.specs.Prelude.{◌≡◌, ◌≤◌, MatchOption, None, Some, Result, length, string_bytes};
-ghost use Rattle.outside.specs.Faults.{Rose};
+ghost use Rattle.std.specs.Prelude.{◌≡◌, ◌≤◌, MatchOption, None, Some, Result, length};
 ghost use Rattle.certify.specs.Ending.{line_of, line_of_ending, status_of, status_of_fault, status_of_verdict};
 ghost use Rattle.certify.specs.Run.{Ends, HasCauses, HasRead, Judges, Said, file_in, file_named, texts};
 ghost use Rattle.certify.specs.declared.fault.Fault.{Fault};

@@ -1,4 +1,4 @@
-use Rattle.std.proofs.Common.{◌-◌, ◌≤◌, vec_len}
+use Rattle.std.proofs.Common.{◌≡◌, ◌-◌, ◌≤◌, vec_len}
 use Rattle.std.specs.Io.KnownBytes.{Consumes}
 use Rattle.certify.specs.declared.fault.TheConstants.{MAX_BYTES}
 use Rattle.certify.proofs.read.read_started.Given as goal
@@ -11,7 +11,7 @@ invariant-pieces g l =
     record {
       taken : Consumes (left l.fn.inputs) (left l.inputs) l.bytes.items;
       short : vec_len l.bytes ≤ MAX_BYTES;
-      later : faults l.fn.inputs ≤ faults l.inputs;
+      kept : faults l.inputs ≡ faults l.fn.inputs;
     }
 
 abbrev pub decreases-pieces : goal.decreases-pieces

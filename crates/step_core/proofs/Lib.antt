@@ -2,3 +2,4 @@ pub mod lists
 pub mod tables
 pub mod seen
 pub mod Limits
+pub mod changes

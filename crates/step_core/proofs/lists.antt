@@ -2,6 +2,7 @@ pub mod Above
 pub mod Calls
 pub mod Histories
 pub mod Change
+pub mod Each
 pub mod Keys
 pub mod Places
 pub mod Rising

@@ -5,3 +5,4 @@ pub mod Single
 pub mod Spots
 pub mod Steps
 pub mod Held
+pub mod Members

@@ -1,7 +1,9 @@
 -- A round with one pass, as that pass can tell it without a word or a row: which keys the set has,
 -- what was drawn, and what a call draws then.
 use Rattle.std.specs.Prelude.{ℕ, ◌+◌, Bool, true, false, nat_le, List, [], ◌∷◌, Option, Some, None}
+use Rattle.set_model.specs.declared.call.Call.{Call}
 use Rattle.step_core.specs.Buckets.{class_keys}
+use Rattle.step_core.specs.Rising.{keys_after_call}
 
 -- the keys of the set, rising; the exponent of the head and which of its buckets are nil; the first
 -- word never drawn and the number of words; and the place that a draw past the end found
@@ -42,6 +44,10 @@ drawing_where None false len ledger = record {
 abbrev pub drawing : ℕ → Ledger → Outcome
 drawing len ledger =
     drawing_where ledger.spent (nat_le (ledger.next + len) ledger.cap) len ledger
+
+-- the ledger after a call that changed the set
+abbrev pub changed : Call → ℕ → Ledger → Ledger
+changed call key ledger = record ledger { keys = keys_after_call call key ledger.keys }
 
 -- the keys of the set that are of a bucket of the head
 abbrev pub bucket_keys : ℕ → Ledger → List ℕ

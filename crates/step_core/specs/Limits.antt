@@ -21,6 +21,10 @@ max_exponent = 24
 abbrev pub max_keys : ℕ
 max_keys = 2 ^ 24
 
+-- the most calls that a pass begins
+abbrev pub max_calls : ℕ
+max_calls = 2 ^ 48
+
 -- the most turns of a plan, tried or helped
 abbrev pub max_turns : ℕ
 max_turns = 1000000

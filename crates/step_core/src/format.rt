@@ -42,6 +42,9 @@ pub const MAX_SEATS: u32 = 64;
 /// The most words of a round, opening and room.
 pub const MAX_WORDS: u64 = 1 << 28;
 
+/// The most calls that a pass begins.
+pub const MAX_CALLS: u64 = 1 << 48;
+
 /// The most turns of a plan, tried or helped.
 pub const MAX_TURNS: u32 = 1_000_000;
 

@@ -38,7 +38,7 @@ pub struct BucketLoad {
 pub struct OpenTurn {
     /// The head that it loaded.
     pub head: u64,
-    /// How many exchanges the other passes had won when it was loaded.
+    /// A number of exchanges that the other passes had won by then.
     pub seen: u64,
     /// Its loads of bucket words so far, the latest first.
     pub loads: LinkedList<BucketLoad>,
@@ -80,7 +80,7 @@ pub struct StepCounts {
     pub row_swaps: u64,
     /// Notes made. Each is one load of HEAD that isn't among the others.
     pub notes: u64,
-    /// Notes learned from. Each is two loads of HEAD that aren't among the others.
+    /// Loads of HEAD by which it learned from notes, two for each note. They aren't among the others.
     pub learned: u64,
 }
 
@@ -173,7 +173,8 @@ pub enum Event {
     },
 }
 
-/// What a pass knows of its round. Only its own steps change it.
+/// What a pass knows of its round. Only its own steps change it. Fields that no kind of step fills
+/// yet are as a round begins: empty, 0 or None.
 pub struct PassView {
     /// What never changes in the round.
     pub facts: RoundFacts,

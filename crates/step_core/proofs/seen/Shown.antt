@@ -48,7 +48,7 @@ module _ {seats : ℕ} {words : List ℕ} {state : RoundState} (holds : HoldsBlo
       blocks_lie_inside sealed_words open_words hands_of holds.laid at place
       (record { block = block; is_block = here; begun = begun; within = within })
 
-  block_shown : (at : ℕ) (block : Published) → state.blocks at ≡ Some block → IsShown seats words at block
+  pub block_shown : (at : ℕ) (block : Published) → state.blocks at ≡ Some block → IsShown seats words at block
   block_shown at block here =
       let some = some_word block in
       let last = inside at (at + block_len block - 1) block here (omega arith) (omega arith) in

@@ -6,3 +6,5 @@ pub mod Write
 pub mod Seats
 pub mod Learn
 pub mod Notes
+pub mod LoseSwap
+pub mod SwapRow

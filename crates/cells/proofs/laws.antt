@@ -4,9 +4,16 @@ pub mod LoneRound
 pub mod Drawing
 pub mod Sound
 pub mod Seats
+pub mod Given
+pub mod Entries
 pub mod Known
 pub mod Sealed
 pub mod Within
+pub mod Swaps
+pub mod AfterSwaps
+pub mod SwapReady
+pub mod OnlyBucket
+pub mod Swapped
 pub mod HeadLoads
 pub mod BucketLoads
 pub mod BucketKeys

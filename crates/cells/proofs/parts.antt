@@ -4,3 +4,4 @@ pub mod StillPaid
 pub mod SameTurns
 pub mod NoWord
 pub mod Seated
+pub mod WonSwap

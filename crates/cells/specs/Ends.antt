@@ -5,6 +5,10 @@ use Rattle.std.specs.List.Sorted.{IsPermutation}
 use mathlib.Core.Option.{some}
 use lib.ListN.{get_elem?}
 use Rattle.set_model.specs.declared.entry.Entry.{Entry}
+use Rattle.set_model.specs.History.{set_after}
+use Rattle.set_model.specs.Keys.{keys_set}
+use Rattle.step_core.specs.Content.{HasMembers}
+use Rattle.step_core.specs.Plain.{HasPlainRows}
 use Rattle.step_core.specs.States.{RoundState}
 use Rattle.step_core.specs.declared.views.RoundFacts.{RoundFacts}
 use Rattle.cells.specs.Invariant.{HoldsRound}
@@ -30,3 +34,7 @@ pub record EndsRound (facts : RoundFacts) (passes : List PassValue) (words : Lis
   -- and there is no other view
   pub all : IsPermutation (map (λ pass. pass.view) passes) state.views
   pub serials : All HasBegunCalls passes
+  -- the members of the words are the set after the history
+  pub members : HasMembers words (set_after (keys_set facts.keys) history)
+  -- so far no row of them has an operation
+  pub plain : HasPlainRows words

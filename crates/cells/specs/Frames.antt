@@ -51,6 +51,27 @@ OnlyDraws old new = new ≡ record old {
   made = new.made;
 }
 
+-- exchanges of rows change at most the front, what is known, the blocks in hand, the pass's entries,
+-- its turns and exchanges won, and what is noted of beginnings and events
+abbrev pub OnlySwaps : PassView → PassView → Type 0
+OnlySwaps old new = new ≡ record old {
+  front = new.front;
+  known = new.known;
+  hands = new.hands;
+  mine = new.mine;
+  used = new.used;
+  won = new.won;
+  lost = new.lost;
+  turn = new.turn;
+  marks = new.marks;
+  trials = new.trials;
+  events = new.events;
+  begun = new.begun;
+  won_since = new.won_since;
+  cursor = new.cursor;
+  made = new.made;
+}
+
 -- learning from a note changes at most the front
 abbrev pub OnlyLearns : PassView → PassView → Type 0
 OnlyLearns old new = new ≡ record old { front = new.front; made = new.made }

@@ -4,12 +4,13 @@ use Rattle.set_model.specs.declared.entry.Entry.{Entry}
 use Rattle.step_core.specs.Fits.{Fits}
 use Rattle.step_core.specs.Format.{IsNil}
 use Rattle.step_core.specs.Members.{HoldsMembers}
-use Rattle.step_core.specs.States.{RoundState, Each}
+use Rattle.step_core.specs.States.{RoundState, Each, IsRow}
+use Rattle.step_core.specs.declared.published.RowBlock.{RowBlock}
 use Rattle.step_core.specs.declared.views.FilledBucket.{FilledBucket}
 use Rattle.step_core.specs.declared.views.PassView.{PassView}
 use Rattle.step_core.specs.declared.views.RoundFacts.{RoundFacts}
 use Rattle.cells.specs.Lone.{KnowsAlone}
-use Rattle.cells.specs.Past.{HoldsHistory}
+use Rattle.cells.specs.Past.{HoldsHistory, HasGivenKeys}
 use Rattle.cells.specs.Paid.{ArePaid}
 use Rattle.cells.specs.SoFar.{HasOneGeneration}
 use Rattle.cells.specs.Sound.{AreFacts}
@@ -29,10 +30,13 @@ pub record HoldsRound (facts : RoundFacts) (words : List ℕ) (state : RoundStat
   -- words, published blocks and views fit
   pub fits : Fits facts words state
   pub past : HoldsHistory facts state.blocks state.cells state.views history
+  -- each key of a row is the opening's or an insert's
+  pub given : (at : ℕ) (row : RowBlock) → IsRow state.blocks at row
+      → HasGivenKeys facts.keys history row
   -- the members are the set after the history
   pub members : HoldsMembers facts.keys state.head state.blocks state.cells history
   pub paid : ArePaid state.head state.cells state.views
   pub filled : Each (KnowsFilled state.cells) state.views
   -- a pass that is the only one knows the whole table
   pub alone : Each (KnowsAlone facts state.head state.blocks state.cells) state.views
-  pub so_far : HasOneGeneration state.head state.blocks state.views
+  pub so_far : HasOneGeneration facts.keys state.head state.blocks state.views

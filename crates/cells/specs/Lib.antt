@@ -13,3 +13,4 @@ pub mod Begins
 pub mod Lone
 pub mod SoFar
 pub mod Sound
+pub mod Exchanges

@@ -1,8 +1,8 @@
 -- A kind of step as one statement: where the invariant holds, it holds after the step, with another
 -- view of the pass.
-use Rattle.std.specs.Prelude.{◌≡◌, ℕ, ◌+◌, ◌*◌, ◌<◌, ◌≤◌, ◌^◌, List, [], slice_index, slice_set}
+use Rattle.std.specs.Prelude.{◌≡◌, ◌≢◌, ℕ, ◌+◌, ◌*◌, ◌<◌, ◌≤◌, ◌^◌, List, [], slice_index, slice_set}
 use mathlib.Core.List.{IsPrefix}
-use mathlib.Core.Option.{some}
+use mathlib.Core.Option.{Option, none, some}
 use lib.ListN.{get_elem?}
 use Rattle.set_model.specs.declared.entry.Entry.{Entry}
 use Rattle.atomic_table.specs.Table.{Me}
@@ -15,6 +15,8 @@ use Rattle.step_core.specs.declared.views.PassView.{PassView}
 use Rattle.step_core.specs.declared.views.RoundFacts.{RoundFacts}
 use Rattle.arena.specs.Hands.{words_at}
 use Rattle.cells.specs.declared.rule.SeatView.{SeatView}
+use Rattle.step_core.specs.Format.{row_address}
+use Rattle.cells.specs.Exchanges.{SwapsRow, LosesSwap}
 use Rattle.cells.specs.Invariant.{HoldsRound}
 use Rattle.cells.specs.Sound.{IsSound}
 use Rattle.cells.specs.Lone.{SameLedger}
@@ -77,9 +79,23 @@ pub record DrawTells (old : PassView) (step : TableStep ℕ) (next : ℕ) (new :
 abbrev pub write_tells : PassView → TableStep ℕ → ℕ → PassView → Type 0
 write_tells old step word new = new ≡ view_after_write step.word step.first old
 
+-- the serial that an exchange is told, which is for the proof alone
+abbrev pub serial_of : Option ℕ → ℕ
+serial_of none = 0
+serial_of (some serial) = serial
+
+-- an exchange of the word `first` for that of the row in hand is won where it finds it
+pub record SwapTells (old : PassView) (step : TableStep ℕ) (word : ℕ) (new : PassView) : Type 0 where
+  pub won : word ≡ step.first
+      → SwapsRow (serial_of step.said) step.first (row_address step.second) old new
+  pub lost : word ≢ step.first → LosesSwap old new
+
 -- what a pass has once it took a note: the note's front beside its own
 abbrev pub view_after_hear : List Entry → PassView → PassView
-view_after_hear front view = record view { heard = front }
+view_after_hear front view = record view {
+  heard = front;
+  made = record view.made { learned = view.made.learned + 1 };
+}
 
 -- what a pass has once it learned which of its own front and that of a note is longer
 abbrev pub view_after_learn : PassView → PassView

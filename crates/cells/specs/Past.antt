@@ -1,5 +1,5 @@
 -- The history of a round, and what each pass has of it.
-use Rattle.std.specs.Prelude.{◌≡◌, ℕ, ◌<◌, ◌==◌, ◌||◌, Bool, nat_eq, nat_lt, if◌then◌else◌, List, [], ◌∷◌, ◌++◌, length, map, All, Option, Some, None}
+use Rattle.std.specs.Prelude.{true, ◌≡◌, ℕ, ◌<◌, ◌==◌, ◌||◌, Bool, nat_eq, nat_lt, if◌then◌else◌, List, [], ◌∷◌, ◌++◌, length, map, All, Option, Some, None}
 use Rattle.std.specs.List.{filter}
 use Rattle.std.specs.List.Sorted.{IsStrictlyIncreasing}
 use mathlib.Core.List.{IsPrefix}
@@ -7,12 +7,15 @@ use mathlib.Core.Option.{some}
 use lib.ListN.{get_elem?}
 use Rattle.set_model.specs.History.{IsLegal}
 use Rattle.set_model.specs.Keys.{is_in}
+use Rattle.set_model.specs.declared.call.Call.{Call}
+use Rattle.set_model.specs.declared.call.Call.TheVariants.{Insert, Remove, Contains}
 use Rattle.set_model.specs.declared.entry.Entry.{Entry}
 use Rattle.step_core.specs.Members.{call_of}
 use Rattle.step_core.specs.States.{Each}
 use Rattle.step_core.specs.declared.published.Published.{Published}
 use Rattle.step_core.specs.declared.published.Published.TheVariants.{Generation, Row, Op}
 use Rattle.step_core.specs.declared.published.OpBlock.{OpBlock}
+use Rattle.step_core.specs.declared.published.RowBlock.{RowBlock}
 use Rattle.step_core.specs.declared.views.PassView.{PassView}
 use Rattle.step_core.specs.declared.views.RoundFacts.{RoundFacts}
 
@@ -82,6 +85,25 @@ IsInOrder history pass = IsStrictlyIncreasing (map (λ entry. entry.serial) (ent
 abbrev pub UsesSerials : List Entry → ℕ → PassView → Type 0
 UsesSerials history pass view =
     All (λ entry. entry.serial < view.used) (entries_by pass history)
+
+-- inserted keys with that of one call more in front
+abbrev pub inserted_by : Call → ℕ → List ℕ → List ℕ
+inserted_by Insert key keys = key ∷ keys
+inserted_by Remove key keys = keys
+inserted_by Contains key keys = keys
+
+-- the keys that a history inserts, in order
+abbrev pub inserted_keys : List Entry → List ℕ
+inserted_keys [] = []
+inserted_keys (entry ∷ entries) = inserted_by entry.call entry.key (inserted_keys entries)
+
+-- the key is one of the opening, or was inserted
+abbrev pub IsGiven : List ℕ → List Entry → ℕ → Type 0
+IsGiven keys history key = is_in (keys ++ inserted_keys history) key ≡ true
+
+-- so are the keys of a row
+abbrev pub HasGivenKeys : List ℕ → List Entry → RowBlock → Type 0
+HasGivenKeys keys history row = All (IsGiven keys history) row.keys
 
 -- the one history of the round
 pub record HoldsHistory (facts : RoundFacts) (blocks : ℕ → Option Published) (cells : ℕ → ℕ → ℕ)

@@ -1,4 +1,4 @@
--- Which seat at the table speaks for which pass. A table seat that speaks for none has no part in
+-- Which table seat speaks for which pass. A table seat that speaks for none has no part in
 -- the invariant but that its front begins the history.
 use Rattle.std.specs.Prelude.{◌≡◌, ℕ, List, [], ◌∷◌, All}
 use mathlib.Core.List.{IsPrefix}

@@ -1,5 +1,5 @@
 -- What holds of any view, taken alone.
-use Rattle.std.specs.Prelude.{◌≡◌, ℕ, ◌+◌, ◌<◌, ◌≤◌, length}
+use Rattle.std.specs.Prelude.{All, ◌≡◌, ℕ, ◌+◌, ◌<◌, ◌≤◌, length}
 use Rattle.std.specs.List.Sorted.{IsStrictlyIncreasing}
 use Rattle.set_model.specs.History.{IsLegal}
 use Rattle.set_model.specs.Keys.{is_in}
@@ -47,6 +47,8 @@ pub record IsSound (view : PassView) : Type 0 where
   pub seat : view.number < view.facts.seats
   -- its front is a legal history
   pub legal : IsLegal (is_in view.facts.keys) view.front
+  -- the serials of its entries are used
+  pub used : All (λ entry. entry.serial < view.used) view.mine
   -- known blocks lie in the arena, one at a place, and those that share a word are one
   pub blocks : (at : ℕ) (block : Published) → KnowsBlock view at block
       → IsInArena view.facts at (block_len block)

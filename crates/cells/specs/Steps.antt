@@ -260,6 +260,6 @@ pub record Learns (old : PassView) (front : List Entry) (new : PassView) : Type 
   pub other : IsPrefix front new.front
   pub view : new ≡ record old {
     front = longer old.front front;
-    made = record old.made { learned = old.made.learned + 1 };
+    made = record old.made { learned = old.made.learned + 2 };
   }
   pub alone : old.facts.seats ≡ 1 → SameLedger old new

@@ -1,5 +1,5 @@
 -- A round, a pass and a block as contracts see them.
-use Rattle.std.specs.Prelude.{◌≡◌, ℕ, ◌<◌, List, map, All}
+use Rattle.std.specs.Prelude.{◌≡◌, ℕ, ◌<◌, ◌≤◌, List, map, All}
 use Rattle.std.specs.List.{range_with_len}
 use Rattle.atomic_table.specs.Seated.{TableId}
 use Rattle.set_model.specs.declared.entry.Entry.{Entry}
@@ -45,9 +45,14 @@ pub record IsPassOf (round : RoundValue) (pass : PassValue) : Type 0 where
   pub table : pass.table ≡ round.table
   pub facts : pass.view.facts ≡ round.facts
 
--- it has begun the calls of all its entries
-abbrev pub HasBegunCalls : PassValue → Type 0
-HasBegunCalls pass = All (λ entry. entry.serial < pass.calls) pass.view.mine
+-- it has begun the calls of all its entries and operations
+pub record HasBegunCalls (pass : PassValue) : Type 0 where
+  pub serials : All (λ entry. entry.serial < pass.calls) pass.view.mine
+  pub used : pass.view.used ≤ pass.calls
+
+-- it has begun a call that has no entry and no operation yet
+abbrev pub HasNewCall : PassValue → Type 0
+HasNewCall pass = pass.view.used < pass.calls
 
 -- it is the same pass of the same round, and has begun no call more
 pub record IsSamePass (old new : PassValue) : Type 0 where

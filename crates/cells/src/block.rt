@@ -38,3 +38,13 @@ impl Block {
 /// A draw passed the end of the arena, now or before: the pass is spent.
 #[derive(Clone, Copy, Debug, PartialEq, Eq)]
 pub struct Full;
+
+/// An exchange found another word than the one expected. The block stays in the pass's hands, to be
+/// written again.
+#[derive(Drop)]
+pub struct LostBlock {
+    /// The word that it found.
+    pub found: u64,
+    /// The block that it would have published.
+    pub block: Block,
+}

@@ -11,7 +11,7 @@ use step_core::NEXT;
 
 impl Round {
     /// Draws a block of so many words, all 0, into the pass's hands. It is Full exactly where the
-    /// pass was spent, and then makes no step, or where the words drawn pass the end of the arena:
+    /// pass was spent, whose view then stays, or where the words drawn pass the end of the arena:
     /// from then on the pass is spent. Of the only pass of a round its ledger says which of these
     /// it is, and where the block lies.
     pub fn draw(&self, pass: &mut Pass, len: u64) -> Result<Block, Full>

@@ -2,7 +2,7 @@
 //!
 //! A *round* is one row of words, as `step_core` lays them out, which changes in single atomic
 //! steps. A *pass* is a caller's token: it makes the steps, and has a *view*, what it knows. The
-//! *history* is the list of the calls that changed the set, in the order in which they took effect.
+//! *history* is the list of the calls that took effect, each with its answer, in that order.
 //! It is stored nowhere: a pass's *front* is what it has seen of it, and a *note* hands a front on
 //! to another pass. A *block* is in one pass's hands from the draw on.
 //!
@@ -10,12 +10,13 @@
 //! docs/INVARIANT.md). It holds between any two steps, whatever the schedule: each typed step keeps
 //! it, and says what its pass then knows (`specs/Steps.antt`). `Round::into_words` gives the last
 //! words, the whole history, and that both meet it with the views of all passes. The smallest use
-//! is the test `a_draw_past_the_end_is_full_and_raises_next_once`.
+//! is the test `a_won_exchange_is_an_insert`.
 #![tactic(auto)]
 
 mod block;
 mod draws;
 mod ending;
+mod exchanges;
 mod front;
 mod loads;
 mod notes;
@@ -26,7 +27,7 @@ mod round;
 mod rule;
 mod writes;
 
-pub use block::{Block, Full};
+pub use block::{Block, Full, LostBlock};
 pub use front::Front;
 pub use notes::Note;
 pub use pass::Pass;

@@ -8,8 +8,8 @@ use crate::{Pass, Round, plays};
 use step_core::HEAD;
 
 impl Round {
-    /// Loads HEAD: the address of the head generation. The pass has then seen the whole history,
-    /// knows that generation, and has a turn open.
+    /// Loads HEAD: the address of the head generation. The pass's front is then the history as far
+    /// as it had come, the pass knows that generation, and has a turn open.
     pub fn load_head(&self, pass: &mut Pass) -> u64
         requires pass { IsPassOf self.now pass.old }
         ensures pass { IsSamePass pass.old pass.new }
@@ -34,7 +34,7 @@ impl Round {
     }
 
     /// Loads a bucket word of a known generation. The pass then knows the row that it names, and
-    /// where the bucket isn't frozen it has seen the whole history. A frozen bucket of the head
+    /// where the bucket isn't frozen its front is the history as far as it had come. A frozen bucket of the head
     /// that the open turn loaded loses the turn.
     pub fn load_bucket(&self, pass: &mut Pass, at: u64) -> u64
         requires pass { IsPassOf self.now pass.old }

@@ -6,7 +6,7 @@ use std::collections::LinkedList;
 use std::snapshot::Snapshot;
 use step_core::{PassView, Words};
 
-/// What a table seat at the table knows. No value of it is made.
+/// What a table seat knows. No value of it is made.
 pub struct SeatView {
     /// A front of the history, as a note has it. The passes have their own.
     pub front: LinkedList<Entry>,

@@ -2,6 +2,8 @@ ghost use Rattle.std.specs.Prelude.{◌≡◌, ◌+◌, ◌≤◌, ◌∷◌, []
 ghost use Rattle.std.specs.List.Sorted.{IsStrictlyIncreasing};
 ghost use Rattle.cells.specs.Ends.{AreAllPasses};
 ghost use Rattle.cells.specs.Tokens.{IsPassOf, fresh_pass, fresh_passes};
+ghost use Rattle.step_core.specs.Fits.{IsWellFormed};
+ghost use Rattle.step_core.specs.Plain.{HasPlainRows};
 ghost use Rattle.step_core.specs.Openings.{opening_facts, opening_words};
 ghost use Rattle.step_core.specs.Limits.{max_passes};
 
@@ -14,6 +16,7 @@ mod draws;
 mod ends;
 mod lone;
 mod notes;
+mod swaps;
 
 // A round that begins with these keys, and has so many words of room.
 fn begin(alloc: Global, seats: u32, keys: &[u64], room: u64) -> Result<(Round, Vec<Pass>), NoMemory>
@@ -42,6 +45,8 @@ fn begin(alloc: Global, seats: u32, keys: &[u64], room: u64) -> Result<(Round, V
 // and it ends then.
 fn ended(alloc: Global, round: Round, passes: Vec<Pass>) -> Result<Words, NoMemory>
     requires { AreAllPasses round passes.items }
+    ensures well_formed { IfOk result IsWellFormed }
+    ensures plain { IfOk result HasPlainRows }
 {
     let (round, passes) = match round.into_words(alloc, passes) {
         Ok((words, _)) => return Ok(words),
@@ -72,8 +77,38 @@ fn end_alone(alloc: Global, round: Round, pass: Pass) -> Result<Words, NoMemory>
     requires seats { round.facts.seats ≡ 1 }
     requires pass { IsPassOf round pass }
     requires number { pass.view.number ≡ 0 }
+    ensures well_formed { IfOk result IsWellFormed }
+    ensures plain { IfOk result HasPlainRows }
 {
     let mut passes = Vec::new(alloc);
     passes.push(pass)?;
+    ended(alloc, round, passes)
+}
+
+// A round without keys, with its two passes and so many words to draw.
+fn begin_two(alloc: Global, room: u64) -> Result<(Round, Pass, Pass), NoMemory>
+    requires few { room ≤ 100000 }
+    ensures seats { IfOk result (λ r. r.0.facts.seats ≡ 2) }
+    ensures first { IfOk result (λ r. r.1 ≡ fresh_pass r.0 0) }
+    ensures second { IfOk result (λ r. r.2 ≡ fresh_pass r.0 1) }
+{
+    let (round, mut passes) = begin(alloc, 2, &[], room)?;
+    let (Some(second), Some(first)) = (passes.pop(), passes.pop()) else {
+        unreachable!()
+    };
+    Ok((round, first, second))
+}
+
+// The words of such a round as it ends.
+fn end_two(alloc: Global, round: Round, first: Pass, second: Pass) -> Result<Words, NoMemory>
+    requires seats { round.facts.seats ≡ 2 }
+    requires first { IsPassOf round first × (first.view.number ≡ 0) }
+    requires second { IsPassOf round second × (second.view.number ≡ 1) }
+    ensures well_formed { IfOk result IsWellFormed }
+    ensures plain { IfOk result HasPlainRows }
+{
+    let mut passes = Vec::new(alloc);
+    passes.push(first)?;
+    passes.push(second)?;
     ended(alloc, round, passes)
 }

@@ -29,8 +29,10 @@ use Rattle.cells.specs.Moves.{Moved, Moves, load_bucket_tells}
 use Rattle.cells.specs.Paid.{wins_of}
 use Rattle.cells.specs.Sound.{IsSound}
 use Rattle.cells.specs.Steps.{LoadsBucket, LoadsKnownBucket, AgreesWithHistory, NamesOwnRow, is_nil, is_frozen, filled_bucket, view_after_load_bucket}
-use Rattle.cells.proofs.laws.BucketLoads.{is_nil-nil, is_nil-other}
+use Rattle.cells.specs.SoFar.{IsGivenBlock, KnowsGiven}
+use Rattle.cells.proofs.laws.BucketLoads.{is_frozen-mutable, is_nil-nil, is_nil-other}
 use Rattle.cells.proofs.laws.FoundBucket.{published, word_is, row_there, finds_filled, names_row, row_agrees, is_untouched-cases}
+use Rattle.cells.proofs.laws.Given.{given_published}
 use Rattle.cells.proofs.laws.Known.{generation_at-known}
 use Rattle.cells.proofs.laws.Lone.{same_ledger, table_stays}
 use Rattle.cells.proofs.laws.LoneBucket.{is_touched, bucket_generation, bucket_untouched}
@@ -158,6 +160,15 @@ module _ {facts : RoundFacts} {words : List ℕ} {state : RoundState} {history :
         nil = nil_is;
       }
 
+    -- the row's keys are given by the front, which is the history
+    given_now : KnowsGiven facts.keys old.number new_view
+    given_now =
+        let mutable : is_frozen found ≡ false =
+        is_frozen-mutable found (names_row round old there place at bucket generation is).mutable in
+        subst (λ (frozen : Bool). All (IsGivenBlock facts.keys (if frozen then old.front else history)) new_view.known) (sym mutable)
+        (given_published facts.keys history state.blocks new_view.known round.given
+        (row_known state.blocks found row old.known here (round.fits.known old.number old there)))
+
     -- the view owes nothing
     goes : Goes facts state.head state.blocks state.cells history (wins_of state.views) old new_view
     goes =
@@ -183,6 +194,7 @@ module _ {facts : RoundFacts} {words : List ℕ} {state : RoundState} {history :
           alone = λ alone. table_stays old new_view refl (same_generation alone) (same_untouched alone)
               state.head state.blocks state.cells refl (table alone);
           no_mark = round.so_far.no_mark old.number old there;
+          given = given_now;
         }
 
     -- so the load moves the round, whichever row this is

@@ -1,5 +1,5 @@
 -- A load of the head keeps the invariant: the pass has seen the whole history, and has a turn open on the head.
-use Rattle.std.proofs.Common.{◌≡◌, ℕ, ◌-◌, List, get_or, refl, sym, ap, ◌∙◌, Some}
+use Rattle.std.proofs.Common.{◌∷◌, ◌≡◌, ℕ, ◌-◌, List, get_or, refl, sym, ap, ◌∙◌, Some}
 use mathlib.Core.Option.{some}
 use lib.ListN.{get_elem?}
 use base.Growing.{prefix_refl}
@@ -19,6 +19,7 @@ use Rattle.cells.specs.Lone.{head_at, first_generation, head_generation, is_unto
 use Rattle.cells.specs.Moves.{Moves, load_head_tells}
 use Rattle.cells.specs.Paid.{wins_of}
 use Rattle.cells.specs.Steps.{LoadsKnownHead, view_after_load_head}
+use Rattle.cells.proofs.laws.Given.{given_published}
 use Rattle.cells.proofs.laws.Lone.{generation_in-first, is_untouched-same, same_ledger, table_stays}
 use Rattle.cells.proofs.laws.LoneRound.{lone_front}
 use Rattle.cells.proofs.laws.Paid.{paid_load_head}
@@ -102,6 +103,9 @@ module _ {facts : RoundFacts} {words : List ℕ} {state : RoundState} {history :
         alone = λ alone. table_stays old new refl (same_generation alone) (same_untouched alone) state.head state.blocks state.cells
             (same_head alone) (table alone);
         no_mark = round.so_far.no_mark old.number old there;
+        given = given_published facts.keys history state.blocks (known_block word (Generation generation) ∷ old.known) round.given
+            (All-cons (IsPublished state.blocks) (known_block word (Generation generation)) old.known
+            here (round.fits.known old.number old there));
       }
 
 -- whatever the round is, the pass may load the head

@@ -27,6 +27,7 @@ use Rattle.cells.proofs.parts.PutView.{Goes}
 use Rattle.cells.proofs.parts.NoWord.{load_moved}
 use Rattle.cells.proofs.parts.SameTurns.{sees_goes}
 use Rattle.cells.proofs.laws.Lone.{generation_in-stays, is_untouched-same, same_ledger}
+use Rattle.cells.specs.SoFar.{IsGivenBlock}
 use Rattle.cells.proofs.laws.Sound.{sound_view}
 
 -- what word `k` of a block names
@@ -157,6 +158,18 @@ module _ {facts : RoundFacts} {words : List ℕ} {state : RoundState} {history :
   learned_published : All (IsPublished state.blocks) learned
   learned_published = learned_known state.blocks (named_by block k)
 
+  -- so far no known block names another,
+  no_link : (other : Published) → KnowsBlock old at other → link_of other ≡ 0
+  no_link (Generation generation) known = sound.so_far.first at generation known
+  no_link (Row row) known = sound.so_far.no_op at row known
+  no_link (Op op) known = refl
+
+  -- so no row became known
+  learned_given : All (IsGivenBlock facts.keys old.front) learned
+  learned_given = subst (All (IsGivenBlock facts.keys old.front))
+      (ap (learned_from state.blocks) (sym (names_nothing k block (inr (no_link block sealed.known)))))
+      (All-nil (IsGivenBlock facts.keys old.front))
+
   -- the only pass finds the head's generation still
   same_generation : facts.seats ≡ 1 → head_generation new_view ≡ head_generation old
   same_generation alone =
@@ -171,6 +184,7 @@ module _ {facts : RoundFacts} {words : List ℕ} {state : RoundState} {history :
       let begun = round.past.begun old.number old there in
       sees_goes round old new_view there refl (prefix_refl old.front) begun.front begun.heard
       (All-append (IsPublished state.blocks) learned old.known learned_published (round.fits.known old.number old there))
+      (All-append (IsGivenBlock facts.keys old.front) learned old.known learned_given (round.so_far.given old.number old there))
       same_generation
 
   -- so the load moves the round

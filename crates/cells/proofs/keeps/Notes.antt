@@ -1,5 +1,5 @@
 -- Making a note keeps the rule, and so does taking one in: a note's front begins the history.
-use Rattle.std.proofs.Common.{◌≡◌, ℕ, ◌<◌, All, List, [], ◌∷◌, ◌++◌, slice_set, refl, sym, ap, ◌∙◌, subst, inl, inr}
+use Rattle.std.proofs.Common.{arith, ◌≡◌, ℕ, ◌<◌, All, List, [], ◌∷◌, ◌++◌, slice_set, refl, sym, ap, ◌∙◌, subst, inl, inr}
 use mathlib.Core.List.{IsPrefix}
 use mathlib.Core.Option.{some}
 use lib.ListN.{get_elem?}
@@ -55,7 +55,7 @@ module _ {facts : RoundFacts} {words : List ℕ} {state : RoundState} {history :
   goes =
       let begun = round.past.begun old.number old there in
       sees_goes round old heard there refl (prefix_refl old.front) begun.front begins (round.fits.known old.number old there)
-      (λ alone. refl)
+      (round.so_far.given old.number old there) (λ alone. refl)
 
   -- the invariant holds with the front that the pass heard
   hear_view : HoldsRound facts words (put round old heard there goes state.owners state.next) history
@@ -72,7 +72,7 @@ module _ {facts : RoundFacts} {words : List ℕ} {state : RoundState} {history :
   note_goes =
       let begun = round.past.begun old.number old there in
       sees_goes round old (view_after_note old) there refl (prefix_refl old.front) begun.front begun.heard
-      (round.fits.known old.number old there) (λ alone. refl)
+      (round.fits.known old.number old there) (round.so_far.given old.number old there) (λ alone. refl)
 
   -- the invariant holds with it
   note_view : HoldsRound facts words (put round old (view_after_note old) there note_goes state.owners state.next) history
@@ -96,6 +96,7 @@ sound_noted view sound = record {
   facts = sound.facts;
   seat = sound.seat;
   legal = sound.legal;
+  used = sound.used;
   blocks = sound.blocks;
   one = sound.one;
   apart = λ at other place word too. sound.apart at other place
@@ -109,7 +110,7 @@ sound_noted view sound = record {
   hands_unknown = λ at other place word too. sound.hands_unknown at other place (record { begun = word.begun; within = word.within })
       (record { block = too.block; known = too.known; begun = too.begun; within = too.within });
   lone = sound.lone;
-  so_far = record { first = sound.so_far.first; no_op = sound.so_far.no_op; no_mark = sound.so_far.no_mark };
+  so_far = record { first = sound.so_far.first; no_op = sound.so_far.no_op; no_mark = sound.so_far.no_mark; given = sound.so_far.given };
 }
 
 -- and the pass is whole with it
@@ -123,8 +124,11 @@ noted_whole old new whole me number spent calls =
       number = number ∙ whole.number ∙ sym (ap (λ (v : PassView). v.number) view);
       spent = spent ∙ whole.spent ∙ sym (ap (λ (v : PassView). v.spent) view);
       sound = subst IsSound (sym view) (sound_noted (pass_of old.seat.me.0) whole.sound);
-      serials = subst (λ (z : List Entry × ℕ). All (λ entry. entry.serial < z.1) z.0)
-          (λ i. (ap (λ (v : PassView). v.mine) (sym view) i, sym calls i)) whole.serials;
+      serials = record {
+        serials = subst (λ (z : List Entry × ℕ). All (λ entry. entry.serial < z.1) z.0)
+            (λ i. (ap (λ (v : PassView). v.mine) (sym view) i, sym calls i)) whole.serials.serials;
+        used = omega (arith, whole.serials.used, ap (λ (v : PassView). v.used) view, calls);
+      };
       heard = ap (λ (v : PassView). v.heard) view ∙ whole.heard;
     }
 

@@ -1,25 +1,22 @@
 -- What the load of a bucket leaves and tells, by fields of the view.
-use Rattle.std.proofs.Common.{◌≡◌, ◌≢◌, ℕ, ◌+◌, ◌%◌, ◌&&◌, ◌⊎◌, Bool, true, false, cond, nat_eq, List, [], ◌∷◌, ◌++◌, All, Option, Some, None, refl, sym, ap, ap₂, ◌∙◌, subst, inl, inr, ⊎_elim, eq-eqb, ne_eqb, arith}
+use Rattle.std.proofs.Common.{◌≡◌, ◌≢◌, ℕ, ◌+◌, ◌%◌, ◌&&◌, ◌⊎◌, Bool, true, false, cond, nat_eq, List, [], ◌∷◌, ◌++◌, Option, Some, None, refl, sym, ap, ap₂, ◌∙◌, subst, inl, inr, ⊎_elim, eq-eqb, ne_eqb, arith}
 use Rattle.std.proofs.lemmas.Bool.{cases_Bool}
 use native.Mathlib.Decide.{ℕ_discrete}
 use mathlib.Core.List.{IsPrefix}
 use base.Growing.{prefix_refl}
 use Rattle.set_model.specs.declared.entry.Entry.{Entry}
-use Rattle.std.specs.List.Sorted.{IsStrictlyIncreasing}
-use Rattle.step_core.specs.Content.{InClass}
 use Rattle.step_core.specs.Format.{IsNil, IsMutable, IsFrozen, row_address}
 use Rattle.step_core.specs.declared.published.Published.TheVariants.{Row}
 use Rattle.step_core.specs.declared.published.GenerationBlock.{GenerationBlock}
-use Rattle.step_core.specs.declared.published.RowBlock.{RowBlock}
 use Rattle.step_core.specs.declared.views.Known.{Known}
 use Rattle.step_core.specs.declared.views.BucketLoad.{BucketLoad}
 use Rattle.step_core.specs.declared.views.OpenTurn.{OpenTurn}
 use Rattle.step_core.specs.declared.views.PassView.{PassView}
 use Rattle.cells.specs.Frames.{OnlyLoads}
-use Rattle.cells.specs.Known.{known_block, KnowsRow, IsBucketWord, row_at, keys_at, generation_at}
+use Rattle.cells.specs.Known.{known_block, KnowsRow, IsBucketWord, generation_at}
 use Rattle.cells.specs.Sound.{IsSound}
 use Rattle.cells.specs.Steps.{is_nil, is_frozen, bucket_load, loses_turn, turn_after_load, LoadsBucket}
-use Rattle.cells.proofs.laws.Known.{knows_first, row_at-known, generation_at-known}
+use Rattle.cells.proofs.laws.Known.{knows_first, generation_at-known}
 
 -- Each word is odd or even.
 pub odd_or_even : (word : ℕ) → (word % 2 ≡ 1) ⊎ (word % 2 ≡ 0)

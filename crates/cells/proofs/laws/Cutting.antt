@@ -103,6 +103,7 @@ fresh_sound facts number small lt = record {
   facts = small;
   seat = lt;
   legal = tt;
+  used = All-nil (λ entry. entry.serial < 0);
   blocks = λ at block knows. absurd (omega (arith, knows.1));
   one = λ at block other knows also. absurd (omega (arith, knows.1));
   apart = λ at other place inside also. absurd (omega (arith, inside.known.1));
@@ -116,6 +117,7 @@ fresh_sound facts number small lt = record {
     first = λ at generation knows. absurd (omega (arith, knows.1));
     no_op = λ at row knows. absurd (omega (arith, knows.1));
     no_mark = refl;
+    given = λ at row knows. absurd (omega (arith, knows.1));
   };
 }
 
@@ -130,8 +132,11 @@ fresh_whole facts number inside small lt me is_number unspent =
       number = is_number ∙ ap (λ (m : Me ℕ SeatView). (pass_of m.0).number) (sym me);
       spent = unspent ∙ ap (λ (m : Me ℕ SeatView). (pass_of m.0).spent) (sym me);
       sound = subst (Of IsSound) (sym me) (fresh_sound facts number small lt);
-      serials = subst (Of (λ view. All (λ entry. entry.serial < inside.calls) view.mine)) (sym me)
-          (All-nil (λ entry. entry.serial < inside.calls));
+      serials = record {
+        serials = subst (Of (λ view. All (λ entry. entry.serial < inside.calls) view.mine)) (sym me)
+            (All-nil (λ entry. entry.serial < inside.calls));
+        used = omega (arith, ap (λ (m : Me ℕ SeatView). (pass_of m.0).used) me);
+      };
       heard = ap (λ (m : Me ℕ SeatView). (pass_of m.0).heard) me;
     }
 

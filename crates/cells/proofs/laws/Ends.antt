@@ -11,6 +11,16 @@ use Rattle.std.proofs.Math.Seq.{get_or-append_seam}
 use Rattle.std.proofs.lemmas.List.Sorted.{All-permutation, IsPermutation-map, length_permutation}
 use Rattle.atomic_table.specs.Table.{Final, Seen}
 use Rattle.set_model.specs.declared.entry.Entry.{Entry}
+use Rattle.std.specs.FinSet.{contains-from_list_nat}
+use Rattle.set_model.specs.History.{set_after}
+use Rattle.set_model.specs.Keys.{keys_set, is_in, IsTestOf}
+use Rattle.set_model.proofs.LawHistory.{sets_and_tests_agree}
+use Rattle.step_core.specs.Content.{HasMembers}
+use Rattle.step_core.specs.Fits.{IsWellFormed}
+use Rattle.step_core.proofs.seen.Members.{is_member-held, plain_rows}
+use Rattle.step_core.proofs.seen.Shown.{well_formed_from_fits}
+use Rattle.cells.proofs.laws.LoneRound.{lone_front}
+use Rattle.step_core.specs.States.{RoundState}
 use Rattle.step_core.specs.declared.views.PassView.{PassView}
 use Rattle.step_core.specs.declared.views.RoundFacts.{RoundFacts}
 use Rattle.cells.specs.Ends.{EndsRound, HasView}
@@ -130,6 +140,27 @@ all_views views passes seats long all once =
     ))
     (IsPermutation-map found (numbers_of passes) (range_with_len 0 seats) once)
 
+-- the members of a round's words are the set after its history
+pub round_members : {facts : RoundFacts} {words : List ℕ} {state : RoundState} {history : List Entry}
+    → HoldsRound facts words state history → HasMembers words (set_after (keys_set facts.keys) history)
+round_members {facts} {words} {state} {history} round key =
+    let opening : IsTestOf (is_in facts.keys) (keys_set facts.keys) = λ key. contains-from_list_nat facts.keys key in
+    (sets_and_tests_agree (is_in facts.keys) (keys_set facts.keys) history opening).0 key
+    ∙ sym (round.members key)
+    ∙ sym (is_member-held round.fits.holds key)
+
+-- a pass that is the only one has seen the whole history at the end
+pub end_front : (facts : RoundFacts) (passes : List PassValue) (words : List ℕ) (history : List Entry)
+    → EndsRound facts passes words history → facts.seats ≡ 1 → All (λ pass. pass.view.front ≡ history) passes
+end_front facts passes words history ends alone =
+    All-weaker (HasView ends.state) (λ pass. pass.view.front ≡ history)
+    (λ pass there. lone_front ends.holds pass.view.number pass.view there alone) passes ends.views
+
+-- the last words of a round are well formed
+pub end_words : (facts : RoundFacts) (passes : List PassValue) (words : List ℕ) (history : List Entry)
+    → EndsRound facts passes words history → IsWellFormed words
+end_words facts passes words history ends = well_formed_from_fits facts words ends.state ends.holds.fits
+
 -- the words and the longest front at the end of a round are its last words and its history
 pub ends_round : (facts : RoundFacts) (passes : List PassValue) (id : ℕ) (seat : SeatView) (words slots : List ℕ)
     → seat ≡ gathered_seat (views_of passes) → IsPermutation (numbers_of passes) (range_with_len 0 facts.seats)
@@ -158,10 +189,14 @@ ends_round facts passes id seat words slots is_seat once begun_calls final =
     let there : All (HasView ruled.state) passes = All-views (λ view. get_elem? views view.number ≡ some view) passes
     (All-weaker (SpeaksFor views owner id) (λ view. get_elem? views view.number ≡ some view) (λ view is. is.is_view)
     gathered speaks) in
+    let ended : HoldsRound facts words ruled.state (longest_front gathered) =
+    subst (λ (z : List ℕ × List Entry). HoldsRound facts z.0 ruled.state z.1) (λ i. (final.2 i, sym whole i)) holds in
     record {
       state = ruled.state;
-      holds = subst (λ (z : List ℕ × List Entry). HoldsRound facts z.0 ruled.state z.1) (λ i. (final.2 i, sym whole i)) holds;
+      holds = ended;
       views = there;
       all = all_views views passes facts.seats holds.fits.passes there once;
       serials = begun_calls;
+      members = round_members ended;
+      plain = plain_rows ended.fits.holds ended.so_far.first ended.so_far.no_op;
     }

@@ -1,5 +1,5 @@
 -- What a pass that learned from a note has: the longer front, and all else as it was.
-use Rattle.std.proofs.Common.{◌≡◌, ℕ, ◌+◌, ◌≤◌, List, [], length, refl, ap, sym, ◌∙◌, subst}
+use Rattle.std.proofs.Common.{◌≡◌, ℕ, ◌+◌, ◌≤◌, List, [], length, refl, ap, sym, ◌∙◌, subst, arith}
 use mathlib.Core.List.{IsPrefix}
 use Rattle.atomic_table.specs.Table.{Step as TableStep}
 use Rattle.set_model.specs.declared.entry.Entry.{Entry}
@@ -42,7 +42,7 @@ learned_from_note front old new step word heard tells =
       view = tells.view ∙ (λ i. record old {
         front = longer old.front front;
         heard = sym heard i;
-        made = record old.made { learned = old.made.learned + 1 };
+        made = record old.made { learned = (let two : old.made.learned + 1 + 1 ≡ old.made.learned + 2 = omega arith in two) i };
       });
       alone = λ alone. heard_ledger front old new (tells.alone alone);
     }

@@ -8,6 +8,7 @@ use Rattle.step_core.specs.States.{RoundState}
 use Rattle.step_core.specs.declared.views.PassView.{PassView}
 use Rattle.step_core.specs.declared.views.RoundFacts.{RoundFacts}
 use Rattle.cells.specs.Invariant.{HoldsRound}
+use Rattle.cells.specs.Paid.{wins_of}
 use Rattle.cells.specs.Steps.{FindsNext}
 
 -- the only view of a list is at each place that has one
@@ -48,12 +49,13 @@ module _ {facts : RoundFacts} {words : List ℕ} {state : RoundState} {history :
       ap (λ (view : PassView). view.front)
       (only_view state.views number whole.pass view whole.view (round.fits.passes ∙ alone) there whole.is_view) ∙ whole.all
 
-  -- it has lost no turn
+  -- all exchanges that were won are its own,
+  pub lone_wins : facts.seats ≡ 1 → wins_of state.views ≡ view.won
+  lone_wins alone = only_sum (λ view. view.won) state.views number view (round.fits.passes ∙ alone) there
+
+  -- so it has lost no turn
   pub lone_lost : facts.seats ≡ 1 → view.lost ≡ 0
-  lone_lost alone =
-      let wins = only_sum (λ view. view.won) state.views number view (round.fits.passes ∙ alone) there in
-      let paid = (round.paid number view there).lost in
-      omega arith
+  lone_lost alone = omega (arith, lone_wins alone, (round.paid number view there).lost)
 
   -- its draws and those of others lie before the next place
   pub finds_next : view.facts ≡ facts → FindsNext view state.next

@@ -6,7 +6,7 @@ use Rattle.std.specs.List.{range_with_len}
 use Rattle.std.specs.List.Sorted.{IsStrictlyIncreasing}
 use Rattle.std.proofs.lemmas.List.Elements.{All-nil, All-cons}
 use Rattle.atomic_table.specs.Table.{opening}
-use Rattle.step_core.specs.Openings.{opening_of, opening_words, opening_facts}
+use Rattle.step_core.specs.Openings.{exponent_for, opening_of, opening_words, opening_facts}
 use Rattle.set_model.specs.declared.entry.Entry.{Entry}
 use Rattle.step_core.specs.Format.{base_of}
 use Rattle.step_core.specs.Plain.{IsPlainTable}
@@ -20,7 +20,7 @@ use Rattle.step_core.proofs.tables.Begins.{each_fresh, opening_fits}
 use Rattle.step_core.proofs.lists.Above.{increasing}
 use Rattle.step_core.proofs.tables.Held.{opening_held}
 use Rattle.step_core.proofs.tables.Opened.{opening_table, opening_is_table}
-use Rattle.step_core.proofs.tables.Plain.{generation_there, each_block, each_generation}
+use Rattle.step_core.proofs.tables.Plain.{generation_there, each_block, each_generation, each_row}
 use Rattle.step_core.proofs.tables.Written.{length-opening_of}
 use Rattle.step_core.proofs.tables.Fitting.{table_state}
 use Rattle.cells.specs.Begins.{MayBegin, IsOpeningOf, facts_from}
@@ -28,14 +28,15 @@ use Rattle.cells.specs.Invariant.{IsFilled, KnowsFilled, HoldsRound}
 use Rattle.cells.specs.Lone.{KnowsAlone, first_generation}
 use Rattle.cells.specs.Modeled.{IsRound}
 use Rattle.cells.specs.Paid.{wins_of, IsPaid}
-use Rattle.cells.specs.Past.{HoldsHistory, BeginsHistory, OwnsEntries, IsOfPasses, UsesSerials}
-use Rattle.cells.specs.SoFar.{HasNoMark, HasOneGeneration}
+use Rattle.cells.specs.Past.{HoldsHistory, BeginsHistory, OwnsEntries, IsOfPasses, UsesSerials, HasGivenKeys}
+use Rattle.cells.specs.SoFar.{HasNoMark, HasOneGeneration, IsGivenBlock, KnowsGiven}
 use Rattle.cells.specs.Sound.{AreFacts}
 use Rattle.cells.specs.Seats.{IsRuled, IsSeat, AreSeated, SpeaksFor, facts_of, first_seat}
 use Rattle.cells.specs.declared.round.Round.TheInside as round
 use Rattle.cells.specs.declared.rule.SeatView.{SeatView}
 use Rattle.cells.specs.declared.rule.Setup.{Setup}
 use Rattle.cells.proofs.laws.Facts.{facts_from-opening}
+use Rattle.cells.proofs.laws.Given.{given_class}
 
 -- the view of a pass as its round begins
 pub fresh_there : (facts : RoundFacts) (first count pass : ℕ) → pass < count
@@ -133,12 +134,13 @@ module _ (seats cap : ℕ) (keys : List ℕ) (rising : IsStrictlyIncreasing keys
   first_there = generation_there is_table
 
   -- no other address has one, and no operation is published
-  one_generation : HasOneGeneration state.head state.blocks views
+  one_generation : HasOneGeneration keys state.head state.blocks views
   one_generation = record {
     only = each_generation is_table (λ at generation. at ≡ state.head) refl;
     first = each_generation is_table (λ at generation. generation.predecessor ≡ 0) refl;
     no_op = λ at op there. each_block is_table (λ at block. block ≡ Op op → ⊥) (λ e. cc) (λ bucket low e. cc) at (Op op) there refl;
     no_mark = each_fresh HasNoMark facts (λ pass. refl);
+    given = each_fresh (KnowsGiven keys) facts (λ pass. All-nil (IsGivenBlock keys []));
   }
 
   -- an opening holds with no history
@@ -147,6 +149,8 @@ module _ (seats cap : ℕ) (keys : List ℕ) (rising : IsStrictlyIncreasing keys
     small = small;
     fits = opening_fits seats cap keys rising few fits;
     past = opening_past;
+    given = each_row is_table (λ at row. HasGivenKeys keys [] row)
+        (λ bucket low. given_class keys (exponent_for (length keys)) bucket);
     paid = each_fresh (λ pass view. IsPaid (wins_of views) state.head state.cells view) facts (λ pass. record {
       lost = omega arith;
       turn = λ turn there. cc;

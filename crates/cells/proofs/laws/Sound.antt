@@ -1,6 +1,6 @@
 -- Where the invariant holds, each pass's view is sound: what it says of itself, of known blocks and of blocks in hand is so.
-use Rattle.std.proofs.Common.{◌≡◌, ℕ, ◌+◌, ◌-◌, ◌<◌, List, length, Some, ap, sym, ◌∙◌, subst, arith}
-use Rattle.std.proofs.lemmas.List.Elements.{All-contains}
+use Rattle.std.proofs.Common.{All, [], ◌∷◌, ◌++◌, ◌≡◌, ℕ, ◌+◌, ◌-◌, ◌<◌, List, length, Some, refl, ap, sym, ◌∙◌, subst, arith}
+use Rattle.std.proofs.lemmas.List.Elements.{All-nil, All-cons, All-head, All-tail, All-contains}
 use mathlib.Core.Option.{some}
 use lib.ListN.{get_elem?}
 use native.Mathlib.Decide.{ℕ_discrete}
@@ -21,10 +21,17 @@ use Rattle.step_core.specs.declared.views.PassView.{PassView}
 use Rattle.step_core.specs.declared.views.RoundFacts.{RoundFacts}
 use Rattle.cells.specs.Invariant.{HoldsRound}
 use Rattle.cells.specs.Known.{known_block, KnowsBlock, KnowsRow}
-use Rattle.cells.specs.SoFar.{KnowsOneGeneration}
+use Rattle.cells.specs.Past.{HasGivenKeys, flying_entry}
+use Rattle.cells.specs.SoFar.{IsGivenBlock, KnowsOneGeneration}
 use Rattle.cells.specs.Sound.{IsInArena, IsInHand, IsInBlock, AreFacts, IsSound}
 use Rattle.cells.proofs.laws.LoneRound.{lone_lost}
 use Rattle.cells.proofs.parts.PutState.{there_inside}
+
+-- what holds of all of a list holds of its front
+All-front : {A : Type 0} (P : A → Type 0) (front behind : List A) → All P (front ++ behind) → All P front
+All-front P [] behind all = All-nil P
+All-front P (first ∷ front) behind all =
+    All-cons P first front (All-head P first (front ++ behind) all) (All-front P front behind (All-tail P first (front ++ behind) all))
 
 module _ {facts : RoundFacts} {words : List ℕ} {state : RoundState} {history : List Entry}
     (round : HoldsRound facts words state history) (number : ℕ) (view : PassView)
@@ -111,12 +118,21 @@ module _ {facts : RoundFacts} {words : List ℕ} {state : RoundState} {history :
         absurd (round.so_far.no_op row.op op.op op.there)
   ]
 
+  -- the pass's entries in the history are those of its answered calls, and maybe one more, so their serials are used
+  mine_used : All (λ entry. entry.serial < view.used) view.mine
+  mine_used = All-front (λ (entry : Entry). entry.serial < view.used) view.mine (flying_entry state.blocks state.cells view.flight)
+      (subst (λ (list : List Entry). All (λ entry. entry.serial < view.used) list) (round.past.own number view is_view)
+      (round.past.used number view is_view))
+
   -- so far the round has one generation, and the view knows no other
   one_generation : KnowsOneGeneration view
   one_generation = record {
     first = λ at generation known. round.so_far.first at generation (is_published at (Generation generation) known);
     no_op = row_plain;
     no_mark = round.so_far.no_mark number view is_view;
+    given = λ at row known. subst (λ (facts : RoundFacts). HasGivenKeys facts.keys view.front row) (sym same_round)
+        (All-contains (IsGivenBlock facts.keys view.front) view.known (known_block at (Row row))
+        (round.so_far.given number view is_view) known row refl);
   }
 
   -- at one address one block is known
@@ -134,6 +150,7 @@ module _ {facts : RoundFacts} {words : List ℕ} {state : RoundState} {history :
         facts = is_small;
         seat = has_seat;
         legal = is_legal;
+        used = mine_used;
         blocks = block_inside;
         one = one_there;
         apart = λ at other place word too. blocks_are_apart sealed_words open_words hands_of laid at other place

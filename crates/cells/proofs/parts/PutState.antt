@@ -10,7 +10,8 @@ use Rattle.set_model.specs.Keys.{is_in}
 use Rattle.set_model.specs.declared.entry.Entry.{Entry}
 use Rattle.step_core.specs.Fits.{AnnouncesOps, HoldsBlocks, IsAccount, IsOfRound, KnowsPublished}
 use Rattle.step_core.specs.Members.{HoldsMembers}
-use Rattle.step_core.specs.States.{RoundState, Each, IsGeneration, IsOp}
+use Rattle.step_core.specs.States.{RoundState, Each, IsGeneration, IsRow, IsOp}
+use Rattle.step_core.specs.declared.published.RowBlock.{RowBlock}
 use Rattle.step_core.specs.declared.published.Published.{Published}
 use Rattle.step_core.specs.declared.published.GenerationBlock.{GenerationBlock}
 use Rattle.step_core.specs.declared.published.OpBlock.{OpBlock}
@@ -19,8 +20,8 @@ use Rattle.step_core.specs.declared.views.RoundFacts.{RoundFacts}
 use Rattle.cells.specs.Invariant.{HoldsRound, KnowsFilled}
 use Rattle.cells.specs.Lone.{KnowsAlone}
 use Rattle.cells.specs.Paid.{IsPaid, wins_of}
-use Rattle.cells.specs.Past.{BeginsHistory, IsSeenWhole, OwnsEntries, IsOfPasses, IsInOrder, UsesSerials}
-use Rattle.cells.specs.SoFar.{HasNoMark}
+use Rattle.cells.specs.Past.{BeginsHistory, IsSeenWhole, OwnsEntries, IsOfPasses, IsInOrder, UsesSerials, HasGivenKeys}
+use Rattle.cells.specs.SoFar.{HasNoMark, KnowsGiven}
 
 -- what stands at a place of a list stands inside it
 pub there_inside : {A : Type 0} (list : List A) (place : ℕ) (item : A) → get_elem? list place ≡ some item → place < length list
@@ -76,12 +77,14 @@ pub record Sees (facts : RoundFacts) (head : ℕ) (blocks : ℕ → Option Publi
   pub paid : IsPaid wins head cells view
   pub alone : KnowsAlone facts head blocks cells pass view
   pub no_mark : HasNoMark pass view
+  pub given : KnowsGiven facts.keys pass view
 
 -- what the invariant says of the words, the published blocks, their cells and the history, without any view
 pub record Stands (facts : RoundFacts) (words : List ℕ) (state : RoundState) (history : List Entry) : Type 0 where
   pub size : length words ≡ facts.cap
   pub holds : HoldsBlocks facts.seats words state
   pub announces : AnnouncesOps facts.seats state.announced state.blocks state.cells
+  pub given : (at : ℕ) (row : RowBlock) → IsRow state.blocks at row → HasGivenKeys facts.keys history row
   pub members : HoldsMembers facts.keys state.head state.blocks state.cells history
   pub legal : IsLegal (is_in facts.keys) history
   pub who : All (IsOfPasses facts.seats) history
@@ -103,6 +106,7 @@ each_sees round pass view there = record {
   paid = round.paid pass view there;
   alone = round.alone pass view there;
   no_mark = round.so_far.no_mark pass view there;
+  given = round.so_far.given pass view there;
 }
 
 module _ {facts : RoundFacts} {words : List ℕ} {state : RoundState} {history : List Entry} (round : HoldsRound facts words state history)
@@ -146,6 +150,7 @@ module _ {facts : RoundFacts} {words : List ℕ} {state : RoundState} {history :
         ordered = stands.ordered;
         used = λ pass view is. (each_sees_after pass view is).used;
       };
+      given = stands.given;
       members = stands.members;
       paid = λ pass view is. (each_sees_after pass view is).paid;
       filled = λ pass view is. (each_sees_after pass view is).filled;
@@ -155,5 +160,6 @@ module _ {facts : RoundFacts} {words : List ℕ} {state : RoundState} {history :
         first = stands.first;
         no_op = stands.no_op;
         no_mark = λ pass view is. (each_sees_after pass view is).no_mark;
+        given = λ pass view is. (each_sees_after pass view is).given;
       };
     }

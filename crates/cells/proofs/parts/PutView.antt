@@ -19,7 +19,7 @@ use Rattle.cells.specs.Lone.{KnowsAlone}
 use Rattle.cells.specs.Moves.{Moved}
 use Rattle.cells.specs.Paid.{IsPaid, wins_of}
 use Rattle.cells.specs.Past.{IsSeenWhole, UsesSerials, flying_entry}
-use Rattle.cells.specs.SoFar.{HasNoMark}
+use Rattle.cells.specs.SoFar.{HasNoMark, KnowsGiven}
 use Rattle.cells.proofs.parts.PutState.{Sees, Stands, there_inside, each_put, sum_by-put_same, each_sees, put_state}
 
 -- a front that reaches no less far than one that is the whole history is the whole history
@@ -45,6 +45,7 @@ pub record Goes (facts : RoundFacts) (head : ℕ) (blocks : ℕ → Option Publi
   pub paid : IsPaid wins head cells new
   pub alone : KnowsAlone facts head blocks cells old.number new
   pub no_mark : HasNoMark old.number new
+  pub given : KnowsGiven facts.keys old.number new
 
 -- what the invariant says without a view
 pub stands : {facts : RoundFacts} {words : List ℕ} {state : RoundState} {history : List Entry} → HoldsRound facts words state history
@@ -53,6 +54,7 @@ stands round = record {
   size = round.fits.size;
   holds = round.fits.holds;
   announces = round.fits.announces;
+  given = round.given;
   members = round.members;
   legal = round.past.legal;
   who = round.past.who;
@@ -122,6 +124,7 @@ module _ {facts : RoundFacts} {words : List ℕ} {state : RoundState} {history :
         paid = goes.paid;
         alone = goes.alone;
         no_mark = goes.no_mark;
+        given = goes.given;
       }
 
   -- the invariant holds with the view, where the words still show the state and the draws still add up
@@ -142,6 +145,7 @@ module _ {facts : RoundFacts} {words : List ℕ} {state : RoundState} {history :
           homes = round.fits.holds.homes;
         };
         announces = round.fits.announces;
+        given = round.given;
         members = round.members;
         legal = round.past.legal;
         who = round.past.who;

@@ -14,6 +14,7 @@ use Rattle.step_core.specs.declared.views.StepCounts.{StepCounts}
 use Rattle.cells.specs.Invariant.{HoldsRound}
 use Rattle.cells.specs.Lone.{head_at, generation_in, first_generation, head_generation}
 use Rattle.cells.specs.Paid.{wins_of}
+use Rattle.cells.specs.SoFar.{KnowsGiven}
 use Rattle.cells.proofs.laws.Lone.{is_untouched-same, table_stays}
 use Rattle.cells.proofs.parts.StillPaid.{paid_same}
 use Rattle.cells.proofs.parts.PutView.{Goes}
@@ -33,12 +34,12 @@ seen_view old new = record old {
 module _ {facts : RoundFacts} {words : List ℕ} {state : RoundState} {history : List Entry} (round : HoldsRound facts words state history)
     (old new : PassView) (there : get_elem? state.views old.number ≡ some old) where
   -- where at most these are others, the view owes that its fronts begin the history, that the own one reaches no less far,
-  -- that what it knows is published, and where it is the only one that it finds the head's generation still
+  -- that what it knows is published and given, and where it is the only one that it finds the head's generation still
   pub sees_goes : new ≡ seen_view old new → IsPrefix old.front new.front → IsPrefix new.front history → IsPrefix new.heard history
-      → KnowsPublished state.blocks old.number new
+      → KnowsPublished state.blocks old.number new → KnowsGiven facts.keys old.number new
       → (facts.seats ≡ 1 → generation_in new.known (head_at old) (first_generation old.facts) ≡ head_generation old)
       → Goes facts state.head state.blocks state.cells history (wins_of state.views) old new
-  sees_goes only grows front heard known generation =
+  sees_goes only grows front heard known given generation =
       subst (Goes facts state.head state.blocks state.cells history (wins_of state.views) old) (sym only) (record {
         number = refl;
         same_round = refl;
@@ -57,6 +58,7 @@ module _ {facts : RoundFacts} {words : List ℕ} {state : RoundState} {history :
             (is_untouched-same old (seen_view old new) refl (generation alone) refl) state.head state.blocks state.cells refl
             (round.alone old.number old there alone);
         no_mark = round.so_far.no_mark old.number old there;
+        given = given;
       })
 
 module _ {facts : RoundFacts} {words : List ℕ} {state : RoundState} {history : List Entry} (round : HoldsRound facts words state history)
@@ -68,4 +70,4 @@ module _ {facts : RoundFacts} {words : List ℕ} {state : RoundState} {history :
   draws_go =
       let begun = round.past.begun old.number old there in
       sees_goes round old (record old { hands = hands; drawn = drawn; spent = spent; made = made }) there refl (prefix_refl old.front)
-      begun.front begun.heard (round.fits.known old.number old there) (λ alone. refl)
+      begun.front begun.heard (round.fits.known old.number old there) (round.so_far.given old.number old there) (λ alone. refl)

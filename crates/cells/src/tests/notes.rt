@@ -1,40 +1,12 @@
 // Passes that hand each other notes.
-ghost use Rattle.std.specs.Prelude.{◌≡◌, IfOk};
+ghost use Rattle.std.specs.Prelude.{◌≡◌};
 ghost use mathlib.Core.List.{IsPrefix};
-ghost use Rattle.cells.specs.Tokens.{IsPassOf, IsSamePass, fresh_pass};
+ghost use Rattle.cells.specs.Tokens.{IsPassOf, IsSamePass};
 
-use super::{begin, ended};
+use super::{begin_two, end_two};
 use crate::*;
-use set_model::NoMemory;
-use std::alloc::Global;
 use std::test::Fail;
 use std::thread;
-use step_core::Words;
-
-// A round without keys, with its two passes and two words to draw.
-fn begin_two(alloc: Global) -> Result<(Round, Pass, Pass), NoMemory>
-    ensures seats { IfOk result (λ r. r.0.facts.seats ≡ 2) }
-    ensures first { IfOk result (λ r. r.1 ≡ fresh_pass r.0 0) }
-    ensures second { IfOk result (λ r. r.2 ≡ fresh_pass r.0 1) }
-{
-    let (round, mut passes) = begin(alloc, 2, &[], 2)?;
-    let (Some(second), Some(first)) = (passes.pop(), passes.pop()) else {
-        unreachable!()
-    };
-    Ok((round, first, second))
-}
-
-// The words of such a round as it ends.
-fn end_two(alloc: Global, round: Round, first: Pass, second: Pass) -> Result<Words, NoMemory>
-    requires seats { round.facts.seats ≡ 2 }
-    requires first { IsPassOf round first × (first.view.number ≡ 0) }
-    requires second { IsPassOf round second × (second.view.number ≡ 1) }
-{
-    let mut passes = Vec::new(alloc);
-    passes.push(first)?;
-    passes.push(second)?;
-    ended(alloc, round, passes)
-}
 
 // A pass that drew a block, where that begins, and how far the pass had seen the history.
 #[derive(Drop)]
@@ -86,7 +58,7 @@ fn last_words(first: Option<u64>, second: Option<u64>) -> [u64; 13] {
 
 #[test]
 fn two_passes_learn_from_each_other(rt: HostRuntime) -> Result<(), Fail> {
-    let (round, first, second) = begin_two(rt.alloc())?;
+    let (round, first, second) = begin_two(rt.alloc(), 2)?;
     let first = take_turn(&round, first, 7);
     let second = take_turn(&round, second, 8);
     let one = learn_from(&round, first.pass, second.note);
@@ -102,7 +74,7 @@ fn two_passes_learn_from_each_other(rt: HostRuntime) -> Result<(), Fail> {
 // Passes and notes go from thread to thread. Whichever pass draws first, each block has its value.
 #[test]
 fn two_threads_learn_from_each_other(rt: HostRuntime) -> Result<(), Fail> {
-    let (round, first, second) = begin_two(rt.alloc())?;
+    let (round, first, second) = begin_two(rt.alloc(), 2)?;
     let shared = &round;
     let (first, second) = thread::join(
         &rt,

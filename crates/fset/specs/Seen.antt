@@ -1,9 +1,11 @@
 -- A row as a pass read it.
-use Rattle.std.specs.Prelude.{◌≡◌, ◌≢◌, ℕ, List, [], length, Contains}
+use Rattle.std.specs.Prelude.{◌≡◌, ◌≢◌, ℕ, List, [], ◌∷◌, length, Contains}
+use Rattle.step_core.specs.declared.published.OpBlock.{OpBlock}
+use Rattle.step_core.specs.declared.published.Published.TheVariants.{Op}
 use Rattle.step_core.specs.declared.views.FixedCell.{FixedCell}
 use Rattle.step_core.specs.declared.views.Known.{Known}
 use Rattle.step_core.specs.declared.views.PassView.{PassView}
-use Rattle.cells.specs.Known.{KnowsRow, row_at, keys_at}
+use Rattle.cells.specs.Known.{known_block, KnowsRow, row_at, keys_at}
 use Rattle.cells.specs.Steps.{IsUnmarked}
 use Rattle.fset.specs.declared.seen.Seen.{Seen}
 use Rattle.fset.specs.Frames.{Reads}
@@ -40,5 +42,8 @@ pub record ReadsRow (at : ℕ) (old : PassView) (seen : Seen) (new : PassView) :
   pub reads : Reads learned 2 old new
   -- a row without an operation makes nothing known
   pub nothing : seen.op ≡ 0 → learned ≡ []
+  -- and one with an operation that operation alone, whose result isn't loaded
+  pub learns_op : seen.op ≢ 0 → (op : OpBlock) × (learned ≡ known_block seen.op (Op op) ∷ [])
+  pub unread : seen.result ≡ 0
   -- and the front stays where the pass has no mark on the row
   pub unmarked : IsUnmarked old at → new.front ≡ old.front

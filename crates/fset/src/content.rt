@@ -12,8 +12,8 @@ use crate::Seen;
 use cells::{Pass, Round};
 use step_core::key_place;
 
-/// Whether the content of the row has the key. The keys are loaded in order, each once, up to the
-/// first that isn't below the key. The pass knows no more than before.
+/// Whether the content of the row has the key. So many keys are loaded as are below it, and the next
+/// one, if there is one. The pass knows no more than before.
 pub fn find(round: &Round, pass: &mut Pass, seen: &Seen, key: u64) -> bool
     requires pass { IsPassOf round.now pass.old }
     requires knows { IsSeen pass.old.view seen.now }

@@ -7,8 +7,8 @@
 //!
 //! The promise: `find` answers whether the content has a key, whatever other passes do meanwhile,
 //! since a published row never changes. A row is read only where the pass knows it (`KnowsRowAt` of
-//! `specs/Seen.antt`). What reading leaves of the pass's view is `Reads` of `specs/Frames.antt`,
-//! and readings add up. The smallest use is the test `each_of_five_keys_is_found_in_one_row`.
+//! `specs/Seen.antt`). What `read_row` leaves of the pass's view is `Reads` of `specs/Frames.antt`,
+//! and readings add up; `find` leaves it as it was but for the loads counted. The smallest use is the test `each_of_five_keys_is_found_in_one_row`.
 #![tactic(auto)]
 
 mod content;

@@ -1,18 +1,18 @@
 -- Loading the number of a known row's keys or one of them tells nothing new, and what was read stays true while more becomes known.
-use Rattle.std.proofs.Common.{◌≡◌, ◌≢◌, ℕ, ◌+◌, ◌<◌, List, [], ◌++◌, length, inr, refl, sym, ap, ◌∙◌, subst, append_assoc, add-zero, add_assoc, Bool, cond, eq-eqb, Contains, arith}
+use Rattle.std.proofs.Common.{◌≡◌, ◌≢◌, ℕ, ◌+◌, ◌<◌, List, [], ◌∷◌, ◌++◌, length, inr, refl, sym, ap, ◌∙◌, subst, append_assoc, add-zero, add_assoc, Bool, cond, eq-eqb, Contains, arith}
 use base.Growing.{prefix_refl, prefix_trans}
 use Rattle.std.proofs.lemmas.List.Elements.{Contains-append_right}
 use Rattle.set_model.specs.Keys.{is_in}
 use Rattle.step_core.specs.Members.{keys_with_op}
 use Rattle.step_core.specs.declared.format.TheConstants.{FIRST_KEY}
-use Rattle.step_core.specs.declared.published.Published.TheVariants.{Row}
+use Rattle.step_core.specs.declared.published.Published.TheVariants.{Row, Op}
 use Rattle.step_core.specs.declared.published.RowBlock.{RowBlock}
 use Rattle.step_core.specs.declared.views.Known.{Known}
 use Rattle.step_core.specs.declared.views.FixedCell.{FixedCell}
 use Rattle.step_core.specs.declared.views.PassView.{PassView}
 use Rattle.step_core.specs.declared.views.StepCounts.{StepCounts}
 use Rattle.cells.specs.Frames.{OnlyReads, after_reads}
-use Rattle.cells.specs.Known.{KnowsRow, block_at, row_at, keys_at}
+use Rattle.cells.specs.Known.{known_block, KnowsRow, block_at, row_at, keys_at}
 use Rattle.cells.specs.Sound.{IsSound}
 use Rattle.cells.specs.Steps.{LoadsSealed}
 use Rattle.cells.proofs.laws.Known.{row_stays}
@@ -133,6 +133,10 @@ module _ (at : ℕ) (old : PassView) (known : KnowsRowAt old at) (word : ℕ) (n
         };
         nothing = λ zero. loads.nothing at 1 (Row row)
             (record { known = known; sealed = omega arith; here = refl }) (inr (sym is_op ∙ zero));
+        learns_op = λ some_op.
+            let learns = loads.op at row (record { known = known; sealed = omega arith; here = refl }) (λ zero. some_op (is_op ∙ zero)) in
+            (learns.0, learns.1 ∙ ap (λ (a : ℕ). known_block a (Op learns.0) ∷ []) (sym is_op));
+        unread = refl;
         unmarked = λ none. ap (λ (view : PassView). view.front) loads.view
             ∙ loads.stays at 1 (Row row) (record { known = known; sealed = omega arith; here = refl }) (inr none);
       }

@@ -26,6 +26,10 @@ note_seat front = record { front = front; rights = [] }
 abbrev pub gathered_seat : List PassView → SeatView
 gathered_seat views = record { front = []; rights = views }
 
+-- the view of a pass as its round begins: a table seat is cut off for such a pass alone
+abbrev pub fresh_of : PassView → PassView
+fresh_of view = fresh_view view.facts view.number
+
 -- what is left of a table seat that another took in
 abbrev pub spent_seat : SeatView
 spent_seat = note_seat []

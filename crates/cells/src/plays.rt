@@ -3,7 +3,7 @@ ghost use Rattle.std.specs.Prelude.{[], ◌++◌};
 ghost use Rattle.cells.specs.Moves.{Tells, load_head_tells, load_sealed_tells, load_bucket_tells, DrawTells, write_tells, SwapTells, LearnTells, view_after_hear};
 ghost use Rattle.cells.specs.Past.{longest_front};
 ghost use Rattle.cells.specs.Steps.{view_after_note};
-ghost use Rattle.cells.specs.Seats.{pass_seat, note_seat, spent_seat, pass_of, other_passes};
+ghost use Rattle.cells.specs.Seats.{pass_seat, note_seat, spent_seat, fresh_of, pass_of, other_passes};
 
 use crate::SeatView;
 use atomic_table::{Join, Play, Split};
@@ -68,13 +68,13 @@ impl Join<SeatView> for TakeNote {
     ghost spent = { spent_seat };
 }
 
-// The first of a table seat's passes gets a table seat of its own.
+// The first of a table seat's passes, which has made no step, gets a table seat of its own.
 pub(crate) struct CutPass;
 
 impl Split<SeatView> for CutPass {
     ghost left = { λ seat. record { front = seat.front; rights = other_passes seat.rights } };
 
-    ghost right = { λ seat. pass_seat (pass_of seat) };
+    ghost right = { λ seat. pass_seat (fresh_of (pass_of seat)) };
 }
 
 // A table seat takes the passes of another in.

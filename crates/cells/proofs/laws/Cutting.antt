@@ -11,7 +11,7 @@ use Rattle.step_core.specs.declared.views.RoundFacts.{RoundFacts}
 use Rattle.cells.specs.Begins.{rest_seat, SpeaksForAll}
 use Rattle.cells.specs.Sound.{AreFacts, IsSound}
 use Rattle.cells.specs.Modeled.{IsRound, IsWhole, round_value}
-use Rattle.cells.specs.Seats.{IsRuled, pass_seat, pass_of, other_passes}
+use Rattle.cells.specs.Seats.{IsRuled, fresh_of, pass_seat, pass_of, other_passes}
 use Rattle.cells.specs.Tokens.{RoundValue, PassValue, fresh_pass, fresh_passes}
 use Rattle.cells.specs.declared.pass.Pass.TheInside as pass
 use Rattle.cells.specs.declared.round.Round.TheInside as round
@@ -49,11 +49,12 @@ rest_seat-more round number lt =
 -- the cut is allowed
 pub cut_allowed : (facts : RoundFacts) (round : RoundValue) (number id : ℕ) (me : Me ℕ SeatView)
     → me ≡ (rest_seat round number, []) → number < round.facts.seats
-    → Splits (IsRuled facts) id me.0 (record { front = me.0.front; rights = other_passes me.0.rights }) (pass_seat (pass_of me.0))
+    → Splits (IsRuled facts) id me.0 (record { front = me.0.front; rights = other_passes me.0.rights })
+    (pass_seat (fresh_of (pass_of me.0)))
 cut_allowed facts round number id me seat lt =
     let same = ap (λ (m : Me ℕ SeatView). m.0) seat ∙ rest_seat-more round number lt in
     let Cuts : SeatView → Type 0 = λ seat. Splits (IsRuled facts) id seat
-    (record { front = seat.front; rights = other_passes seat.rights }) (pass_seat (pass_of seat)) in
+    (record { front = seat.front; rights = other_passes seat.rights }) (pass_seat (fresh_of (pass_of seat))) in
     let rest = (rest_seat round (number + 1)).rights in
     subst Cuts (sym same) (cut_keeps facts id (record { front = []; rights = fresh_view round.facts number ∷ rest }) refl
     (all_fresh (λ view. view.number ≢ number) round.facts (number + 1) (round.facts.seats - (number + 1))
@@ -77,7 +78,7 @@ cut_rest round number me seat lt =
 pub cut_more : (round : RoundValue) (number : ℕ) (table after : TableId) (me new : Me ℕ SeatView) (passes more : List PassValue)
     (pass : PassValue) → number < round.facts.seats → IsCut round number table me passes → after ≡ table
     → new ≡ (record { front = me.0.front; rights = other_passes me.0.rights }, me.1)
-    → more ≡ passes ++ pass ∷ [] → pass ≡ record { table = table; view = pass_of me.0; calls = 0 }
+    → more ≡ passes ++ pass ∷ [] → pass ≡ record { table = table; view = fresh_of (pass_of me.0); calls = 0 }
     → IsCut round (number + 1) after new more
 cut_more round number table after me new passes more pass lt cut same_table is pushed pass_is = record {
   same_table = same_table ∙ cut.same_table;
@@ -85,7 +86,7 @@ cut_more round number table after me new passes more pass lt cut same_table is p
   passes_are = pushed
       ∙ (λ i. cut.passes_are i ++ (pass_is ∙ (λ j. record {
         table = cut.same_table j;
-        view = cut_pass round number me cut.seat lt j;
+        view = fresh_of (cut_pass round number me cut.seat lt j);
         calls = 0;
       })) i ∷ [])
       ∙ sym (map-range_with_len_more (fresh_pass round) 0 number number (omega arith));

@@ -1,5 +1,5 @@
 use Rattle.std.proofs.Common.{[], ◌<◌, ap, sym, ◌∙◌, refl, arith}
-use Rattle.cells.specs.Seats.{facts_of, pass_seat, pass_of}
+use Rattle.cells.specs.Seats.{facts_of, fresh_of, pass_seat, pass_of}
 use Rattle.cells.specs.Tokens.{RoundValue}
 use Rattle.cells.proofs.laws.Cutting.{cut_none, cut_allowed, cut_pass, cut_more, cut_all, fresh_whole, round_seats, round_small, round_word}
 use Rattle.cells.proofs.opening.cut_passes.Goals as goal
@@ -32,7 +32,7 @@ invariant_of-push c =
     let lt : number < round.facts.seats = omega (arith, seats, c.loop-number-test.true) in
     let same = cut_pass round number c.loop-number.seat.me cut.seat lt in
     fresh_whole round.facts number _ (round_small c.round.inside round c.round.view_is c.round.invariant) lt
-    (c.split_seat-cut.ensures.4 ∙ (λ i. (pass_seat (same i), []))) refl refl
+    (c.split_seat-cut.ensures.4 ∙ (λ i. (pass_seat (fresh_of (same i)), []))) refl refl
 
 -- one pass more has its table seat
 pub loop-number-preserved : goal.loop-number-preserved

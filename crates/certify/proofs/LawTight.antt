@@ -3,7 +3,7 @@ use Rattle.std.proofs.Common.{◌≡◌, ℕ, ◌==◌, Bool, true, false, ◌&&
 use Rattle.std.specs.List.{list_all}
 use Rattle.std.proofs.lemmas.Bool.Decides.{nat_tests}
 use Rattle.certify.specs.Trim.{cr, is_blank, is_empty, without_cr, behind_blanks, before_blanks, trimmed}
-use Rattle.certify.specs.Grammar.{IsEnding, Says}
+use Rattle.certify.specs.Grammar.{IsEnding, Spells}
 use Rattle.certify.proofs.LawTrim.{true_first, without_cr-cr, without_cr-other, before_blanks-blank, before_blanks-other}
 
 -- what is dropped at the end is at most a CR
@@ -58,7 +58,7 @@ drops_before (b ∷ bytes) = go (drops_before bytes) (is_blank b) refl where
   go rest false e = record { before = []; is = rw e refl; blank = refl }
 
 -- a line says what is left of it
-pub says_trimmed : (text : List ℕ) → Says text (trimmed text)
+pub says_trimmed : (text : List ℕ) → Spells text (trimmed text)
 says_trimmed text =
     let one = drops_cr text in
     let two = drops_behind (without_cr text) in
@@ -119,7 +119,7 @@ drops_first (b ∷ blanks) bytes blank =
     let parts = true_first (is_blank b) (list_all is_blank blanks) blank in
     rw parts.0 (drops_first blanks bytes parts.1)
 
-module _ (text rest : List ℕ) (says : Says text rest) where
+module _ (text rest : List ℕ) (says : Spells text rest) where
   -- the ending goes first
   step_one : without_cr (says.before ++ rest) ≡ says.before ++ rest → without_cr text ≡ says.before ++ rest ++ says.after
   step_one kept =
@@ -143,7 +143,7 @@ module _ (text rest : List ℕ) (says : Says text rest) where
       ∙ drops_first says.before rest says.blank_before ∙ opened
 
 -- nothing is left of a line that says nothing
-pub trimmed-nothing : (text : List ℕ) → Says text [] → trimmed text ≡ []
+pub trimmed-nothing : (text : List ℕ) → Spells text [] → trimmed text ≡ []
 trimmed-nothing text says =
     let only : says.before ++ [] ≡ says.before = append-nil says.before in
     let kept : without_cr (says.before ++ []) ≡ says.before ++ [] =

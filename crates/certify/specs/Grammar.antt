@@ -16,7 +16,7 @@ IsEnding [] = Unit {0}
 IsEnding (b ∷ bytes) = (b ≡ cr) × (bytes ≡ [])
 
 -- the line says this: blanks may stand at both ends, and one CR at the very end
-pub record Says (text rest : List ℕ) : Type 0 where
+pub record Spells (text rest : List ℕ) : Type 0 where
   pub before : List ℕ
   pub after : List ℕ
   pub ending : List ℕ
@@ -55,16 +55,16 @@ pub record WritesCall (text : List ℕ) (claimed : Claimed) : Type 0 where
   pub key_is : WritesNumber 20 key claimed.key
 
 -- what stands in a good line
-abbrev pub Writes : List ℕ → Line → Type 0
-Writes rest Blank = rest ≡ []
-Writes rest (Claim claimed) = WritesCall rest claimed
-Writes rest Order = rest ≡ codes "order"
-Writes rest (Number number) = WritesNumber 20 rest number
-Writes rest Bad = ⊥
+abbrev pub Prints : List ℕ → Line → Type 0
+Prints rest Blank = rest ≡ []
+Prints rest (Claim claimed) = WritesCall rest claimed
+Prints rest Order = rest ≡ codes "order"
+Prints rest (Number number) = WritesNumber 20 rest number
+Prints rest Bad = ⊥
 
 -- the line is a good one of this kind
 abbrev pub IsGoodLine : List ℕ → Line → Type 0
-IsGoodLine text line = (rest : List ℕ) × Says text rest × Writes rest line
+IsGoodLine text line = (rest : List ℕ) × Spells text rest × Prints rest line
 
 -- what a whole line is: bad where it is no good one of any kind
 abbrev pub IsLogLine : List ℕ → Line → Type 0

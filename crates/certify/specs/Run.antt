@@ -44,21 +44,21 @@ verdict_line bytes verdict = text_of (length (calls_of (lines_of bytes))) verdic
 
 -- what an ending says of the bytes and of what was written: the line of the verdict, or a front of
 -- it, or nothing
-abbrev pub Writes : List ℕ → Option (List ℕ) → Option (List ℕ) → Result Verdict Fault → Type 0
-Writes bytes before now (Ok verdict) =
+abbrev pub Prints : List ℕ → Option (List ℕ) → Option (List ℕ) → Result Verdict Fault → Type 0
+Prints bytes before now (Ok verdict) =
     Certifies bytes verdict × Appends before now (verdict_line bytes verdict)
-Writes bytes before now (Err Write) = (verdict : Verdict) × (n : ℕ)
+Prints bytes before now (Err Write) = (verdict : Verdict) × (n : ℕ)
     × Certifies bytes verdict × Appends before now (take n (verdict_line bytes verdict))
-Writes bytes before now (Err (BadLine line)) =
+Prints bytes before now (Err (BadLine line)) =
     (length bytes ≤ 2 ^ 24) × (first_bad bytes ≡ Some line) × Keeps before now
-Writes bytes before now (Err TooLong) = (2 ^ 24 < length bytes) × Keeps before now
-Writes bytes before now (Err other) = Keeps before now
+Prints bytes before now (Err TooLong) = (2 ^ 24 < length bytes) × Keeps before now
+Prints bytes before now (Err other) = Keeps before now
 
 -- the same of the file that the words name
 abbrev pub Ends : Option Files → List (List ℕ) → Option (List ℕ) → Option (List ℕ)
     → Result Verdict Fault → Type 0
 Ends told words before now ending =
-    (bytes : List ℕ) × IsContent told (file_named words) bytes × Writes bytes before now ending
+    (bytes : List ℕ) × IsContent told (file_named words) bytes × Prints bytes before now ending
 
 -- status 2 comes exactly where the words aren't the command
 pub record HasRead (words : List (List ℕ)) (status : ℕ) : Type 0 where
@@ -77,16 +77,16 @@ Said text faults_before faults_now before now = Appends before now text
     ⊎ (Rose faults_before faults_now × ((n : ℕ) × Appends before now (take n text)))
 
 -- the bytes of a file that was read, or why there are none
-abbrev pub Reads : List ℕ → Result (Vec ℕ Global) Fault → Type 0
-Reads bytes (Ok read) = (read.items ≡ bytes) × (length bytes ≤ 2 ^ 24)
-Reads bytes (Err NoMemory) = Unit {0}
-Reads bytes (Err Read) = Unit {0}
-Reads bytes (Err TooLong) = 2 ^ 24 < length bytes
-Reads bytes (Err other) = ⊥
+abbrev pub ReadsFile : List ℕ → Result (Vec ℕ Global) Fault → Type 0
+ReadsFile bytes (Ok read) = (read.items ≡ bytes) × (length bytes ≤ 2 ^ 24)
+ReadsFile bytes (Err NoMemory) = Unit {0}
+ReadsFile bytes (Err Read) = Unit {0}
+ReadsFile bytes (Err TooLong) = 2 ^ 24 < length bytes
+ReadsFile bytes (Err other) = ⊥
 
 -- the same of the bytes that are told, and else of some bytes
 abbrev pub ReadsTold : Option (List ℕ) → Result (Vec ℕ Global) Fault → Type 0
-ReadsTold told result = (bytes : List ℕ) × IfSome told (λ all. bytes ≡ all) × Reads bytes result
+ReadsTold told result = (bytes : List ℕ) × IfSome told (λ all. bytes ≡ all) × ReadsFile bytes result
 
 -- the verdict on the log that the bytes are, or why there is none; then the number of its calls
 abbrev pub Judges : List ℕ → Result (Verdict × ℕ) Fault → Type 0

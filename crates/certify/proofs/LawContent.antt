@@ -8,7 +8,7 @@ use Rattle.std.proofs.lemmas.List.Folds.{list_all-append}
 use Rattle.set_model.specs.declared.call.Call.{Call}
 use Rattle.set_model.specs.declared.call.Call.TheVariants.{Insert, Remove, Contains}
 use Rattle.certify.specs.Line.{number_in, caller_in, asked_in, answer_in, split_once, claimed_in, call_or_bad, number_or, judged}
-use Rattle.certify.specs.Grammar.{WritesCall, sign_of, word_of, Prints}
+use Rattle.certify.specs.Grammar.{WritesCall, sign_of, word_of, IsTextOf}
 use Rattle.certify.specs.declared.claimed.Claimed.{Claimed}
 use Rattle.certify.specs.declared.line.Line.{Line}
 use Rattle.certify.specs.declared.line.Line.TheVariants.{Blank, Claim, Order, Number, Bad}
@@ -130,7 +130,7 @@ judged_by [] one = let clash = one.is in cc
 judged_by (b ∷ rest) one = rw (not_order (b ∷ rest) one) refl
 
 -- what stands there is found
-pub found : (rest : List ℕ) (line : Line) → Prints rest line → judged rest ≡ line
+pub found : (rest : List ℕ) (line : Line) → IsTextOf rest line → judged rest ≡ line
 found rest Blank is = ap judged is
 found rest Order is = ap judged is
 found rest (Number number) writes =

@@ -6,7 +6,7 @@ use Rattle.set_model.specs.declared.call.Call.{Call}
 use Rattle.set_model.specs.declared.call.Call.TheVariants.{Insert, Remove, Contains}
 use Rattle.certify.specs.Trim.{trimmed}
 use Rattle.certify.specs.Line.{number_in, caller_in, call_in, asked_in, answer_in, split_once, claimed_by, claimed_in, judged, line_of}
-use Rattle.certify.specs.Grammar.{Spells, WritesNumber, WritesCall, sign_of, word_of, Prints, IsGoodLine, IsLogLine}
+use Rattle.certify.specs.Grammar.{Spells, WritesNumber, WritesCall, sign_of, word_of, IsTextOf, IsGoodLine, IsLogLine}
 use Rattle.certify.specs.declared.claimed.Claimed.{Claimed}
 use Rattle.certify.specs.declared.line.Line.{Line}
 use Rattle.certify.specs.declared.line.Line.TheVariants.{Blank, Claim, Order, Number, Bad}
@@ -135,34 +135,34 @@ call_written_in text claimed h =
     })
 
 -- what is left of a line is bad, or what it is found to be stands there
-what_stands : (rest : List ℕ) → (judged rest ≡ Bad) ⊎ Prints rest (judged rest)
+what_stands : (rest : List ℕ) → (judged rest ≡ Bad) ⊎ IsTextOf rest (judged rest)
 what_stands [] = inr refl
 what_stands (b ∷ bytes) = go (bytes_eq (b ∷ bytes) (codes "order")) refl where
   rest : List ℕ
   rest = b ∷ bytes
 
   last : bytes_eq (b ∷ bytes) (codes "order") ≡ false → number_in 20 (b ∷ bytes) ≡ None → (c : Option Claimed) → claimed_in (b ∷ bytes) ≡ c
-      → (judged (b ∷ bytes) ≡ Bad) ⊎ Prints (b ∷ bytes) (judged (b ∷ bytes))
+      → (judged (b ∷ bytes) ≡ Bad) ⊎ IsTextOf (b ∷ bytes) (judged (b ∷ bytes))
   last other none None e = inl (rw (other, none, e) refl)
   last other none (Some claimed) e =
       let is : judged (b ∷ bytes) ≡ Claim claimed = rw (other, none, e) refl in
-      inr (subst (Prints (b ∷ bytes)) (sym is) (call_written_in (b ∷ bytes) claimed e))
+      inr (subst (IsTextOf (b ∷ bytes)) (sym is) (call_written_in (b ∷ bytes) claimed e))
 
   numbered : bytes_eq (b ∷ bytes) (codes "order") ≡ false → (n : Option ℕ) → number_in 20 (b ∷ bytes) ≡ n
-      → (judged (b ∷ bytes) ≡ Bad) ⊎ Prints (b ∷ bytes) (judged (b ∷ bytes))
+      → (judged (b ∷ bytes) ≡ Bad) ⊎ IsTextOf (b ∷ bytes) (judged (b ∷ bytes))
   numbered other None e = last other e (claimed_in (b ∷ bytes)) refl
   numbered other (Some number) e =
       let is : judged (b ∷ bytes) ≡ Number number = rw (other, e) refl in
-      inr (subst (Prints (b ∷ bytes)) (sym is) (number_written 20 (b ∷ bytes) number e))
+      inr (subst (IsTextOf (b ∷ bytes)) (sym is) (number_written 20 (b ∷ bytes) number e))
 
-  go : (test : Bool) → bytes_eq (b ∷ bytes) (codes "order") ≡ test → (judged (b ∷ bytes) ≡ Bad) ⊎ Prints (b ∷ bytes) (judged (b ∷ bytes))
+  go : (test : Bool) → bytes_eq (b ∷ bytes) (codes "order") ≡ test → (judged (b ∷ bytes) ≡ Bad) ⊎ IsTextOf (b ∷ bytes) (judged (b ∷ bytes))
   go true e =
       let is : judged (b ∷ bytes) ≡ Order = rw e refl in
-      inr (subst (Prints (b ∷ bytes)) (sym is) (same_bytes (b ∷ bytes) (codes "order") e))
+      inr (subst (IsTextOf (b ∷ bytes)) (sym is) (same_bytes (b ∷ bytes) (codes "order") e))
   go false e = numbered e (number_in 20 (b ∷ bytes)) refl
 
 -- what is left of a good line
-left_of_good : (text : List ℕ) (line : Line) (rest : List ℕ) → Spells text rest → Prints rest line → trimmed text ≡ rest
+left_of_good : (text : List ℕ) (line : Line) (rest : List ℕ) → Spells text rest → IsTextOf rest line → trimmed text ≡ rest
 left_of_good text Blank rest says none =
     trimmed-nothing text (subst (Spells text) none says) ∙ sym none
 left_of_good text Order rest says is =
@@ -178,7 +178,7 @@ good_found text line good = ap judged (left_of_good text line good.0 good.1 good
 good_when : (text : List ℕ) (line : Line) → line_of text ≡ line → (line ≡ Bad → ⊥) → IsGoodLine text line
 good_when text line e good = elim (what_stands (trimmed text)) [
   | inl bad ↦ absurd (good (sym e ∙ bad))
-  | inr writes ↦ (trimmed text, says_trimmed text, subst (Prints (trimmed text)) e writes)
+  | inr writes ↦ (trimmed text, says_trimmed text, subst (IsTextOf (trimmed text)) e writes)
 ]
 
 never_good : (text : List ℕ) → line_of text ≡ Bad → (line : Line) → ¬ IsGoodLine text line

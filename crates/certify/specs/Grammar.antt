@@ -55,16 +55,16 @@ pub record WritesCall (text : List ℕ) (claimed : Claimed) : Type 0 where
   pub key_is : WritesNumber 20 key claimed.key
 
 -- what stands in a good line
-abbrev pub Prints : List ℕ → Line → Type 0
-Prints rest Blank = rest ≡ []
-Prints rest (Claim claimed) = WritesCall rest claimed
-Prints rest Order = rest ≡ codes "order"
-Prints rest (Number number) = WritesNumber 20 rest number
-Prints rest Bad = ⊥
+abbrev pub IsTextOf : List ℕ → Line → Type 0
+IsTextOf rest Blank = rest ≡ []
+IsTextOf rest (Claim claimed) = WritesCall rest claimed
+IsTextOf rest Order = rest ≡ codes "order"
+IsTextOf rest (Number number) = WritesNumber 20 rest number
+IsTextOf rest Bad = ⊥
 
 -- the line is a good one of this kind
 abbrev pub IsGoodLine : List ℕ → Line → Type 0
-IsGoodLine text line = (rest : List ℕ) × Spells text rest × Prints rest line
+IsGoodLine text line = (rest : List ℕ) × Spells text rest × IsTextOf rest line
 
 -- what a whole line is: bad where it is no good one of any kind
 abbrev pub IsLogLine : List ℕ → Line → Type 0

@@ -2,7 +2,7 @@
 use Rattle.std.specs.Prelude.{◌≡◌, ◌⊎◌, ℕ, ◌^◌, ◌<◌, ◌≤◌, false, ◌==◌, if◌then◌else◌, List, [], ◌∷◌, length, take, map, Option, None, Some, IfSome, is_some, Result, Ok, Err, Vec, String, string_bytes}
 use Rattle.std.specs.Io.KnownBytes.{Appends, Keeps}
 use Rattle.std.specs.declared.alloc.Global.{Global}
-use Rattle.outside.specs.Faults.{Rose}
+use Rattle.outside.specs.Faults.{Rose, one_more}
 use Rattle.outside.specs.Files.{Files, bytes_of}
 use Rattle.certify.specs.Ending.{text_of}
 use Rattle.certify.specs.Log.{lines_of, first_bad, calls_of, numbers_of}
@@ -65,11 +65,21 @@ pub record HasRead (words : List (List ℕ)) (status : ℕ) : Type 0 where
   pub bad : status ≡ 2 → is_some (file_named words) ≡ false
   pub refused : is_some (file_named words) ≡ false → status ≡ 2
 
--- No status is above 7. 4 comes only where the inputs' count rose, 5 only where the out sink's did.
+-- a read fault was counted once, and with any other result no fault was
+abbrev pub HasReadCause : {T : Type 0} → ℕ → ℕ → Result T Fault → Type 0
+HasReadCause before now (Err Read) = Rose before now
+HasReadCause before now other = now ≡ before
+
+-- a count of faults rose by one where the status is this one, and else stayed
+abbrev pub RoseAt : ℕ → ℕ → ℕ → ℕ → Type 0
+RoseAt fault status before now = now ≡ (if status == fault then one_more before else before)
+
+-- No status is above 7. With status 4 one fault of the inputs was counted and with 5 one of the out
+-- sink, else none.
 pub record HasCauses (status read_before read_now write_before write_now : ℕ) : Type 0 where
   pub range : status ≤ 7
-  pub read : status ≡ 4 → Rose read_before read_now
-  pub write : status ≡ 5 → Rose write_before write_now
+  pub read : RoseAt 4 status read_before read_now
+  pub write : RoseAt 5 status write_before write_now
 
 -- the text and nothing else was written, or the count rose and a front of it was
 abbrev pub Said : List ℕ → ℕ → ℕ → Option (List ℕ) → Option (List ℕ) → Type 0

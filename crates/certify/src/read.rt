@@ -1,10 +1,8 @@
 // A file as a whole.
-ghost use Rattle.std.specs.Prelude.{◌≡◌, ◌<◌, ◌≤◌, Err, IfOk, length, vec_len};
+ghost use Rattle.std.specs.Prelude.{◌≡◌, ◌<◌, ◌≤◌, IfOk, length, vec_len};
 ghost use Rattle.std.specs.Option.{option_map};
-ghost use Rattle.outside.specs.Faults.{Rose};
 ghost use Rattle.outside.specs.Files.{bytes_of};
-ghost use Rattle.certify.specs.Run.{ReadsTold};
-ghost use Rattle.certify.specs.declared.fault.Fault.TheVariants.{Read};
+ghost use Rattle.certify.specs.Run.{HasReadCause, ReadsTold};
 
 use crate::fault::{Fault, MAX_BYTES};
 use outside::Inputs;
@@ -21,7 +19,7 @@ pub(crate) fn read_file<I: Inputs>(
 ) -> Result<Vec<u8>, Fault>
     ensures answer { ReadsTold
         (option_map (λ files. bytes_of files name.now) (I.files inputs.old)) result }
-    ensures cause { result ≡ Err Read → Rose (I.faults inputs.old) (I.faults inputs.new) }
+    ensures cause { HasReadCause (I.faults inputs.old) (I.faults inputs.new) result }
 {
     let mut buffer = zeros(alloc, PIECE_BYTES)?;
     if inputs.start(name).is_err() {
@@ -45,7 +43,7 @@ fn read_started<I: Inputs>(
 ) -> Result<Vec<u8>, Fault>
     requires { (0 < length buffer.old) × (length buffer.old ≤ PIECE_BYTES) }
     ensures answer { ReadsTold (I.left inputs.old) result }
-    ensures cause { result ≡ Err Read → Rose (I.faults inputs.old) (I.faults inputs.new) }
+    ensures cause { HasReadCause (I.faults inputs.old) (I.faults inputs.new) result }
 {
     let mut bytes = Vec::new(alloc);
     'pieces: loop {

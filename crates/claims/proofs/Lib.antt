@@ -1,3 +1,4 @@
+pub mod LawLimits
 pub mod LawTotals
 pub mod LawPlaces
 pub mod KeepsDraw

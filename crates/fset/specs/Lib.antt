@@ -1,3 +1,7 @@
 pub mod Frames
 pub mod Seen
 pub mod Content
+pub mod Rows
+pub mod Seeking
+pub mod Answers
+pub mod Turns

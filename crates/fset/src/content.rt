@@ -1,5 +1,5 @@
 // Looking for a key in a row.
-ghost use Rattle.std.specs.Prelude.{◌≡◌, ◌<◌, length, slice_index};
+ghost use Rattle.std.specs.Prelude.{◌≡◌, ◌<◌, ◌≤◌, length, slice_index};
 ghost use Rattle.cells.specs.Frames.{after_reads};
 ghost use Rattle.cells.specs.Known.{keys_at};
 ghost use Rattle.cells.specs.Tokens.{IsPassOf, IsSamePass};
@@ -37,11 +37,12 @@ pub(crate) struct Place {
 }
 
 // The place of the key. The keys rise, so none is loaded behind it.
-fn place_among(round: &Round, pass: &mut Pass, seen: &Seen, key: u64) -> Place
+pub(crate) fn place_among(round: &Round, pass: &mut Pass, seen: &Seen, key: u64) -> Place
     requires pass { IsPassOf round.now pass.old }
     requires knows { IsSeen pass.old.view seen.now }
     ensures pass { IsSamePass pass.old pass.new }
     ensures before { result.before ≡ place_in (keys_at pass.old.view seen.now.at) key }
+    ensures within { result.before ≤ seen.now.count }
     ensures taken { result.taken ≡ is_in (keys_at pass.old.view seen.now.at) key }
     ensures view { pass.new.view
         ≡ after_reads (loads_to_find (keys_at pass.old.view seen.now.at) key) pass.old.view }
@@ -63,7 +64,7 @@ fn place_among(round: &Round, pass: &mut Pass, seen: &Seen, key: u64) -> Place
 }
 
 // The key number `i` of a known row, from 0.
-fn key_at(round: &Round, pass: &mut Pass, at: u64, i: u64) -> u64
+pub(crate) fn key_at(round: &Round, pass: &mut Pass, at: u64, i: u64) -> u64
     requires pass { IsPassOf round.now pass.old }
     requires knows { KnowsRowAt pass.old.view at }
     requires fits { i < length (keys_at pass.old.view at) }

@@ -12,10 +12,18 @@
 #![tactic(auto)]
 
 mod content;
+mod outcomes;
+mod rows;
+mod seeking;
 mod seen;
+mod turns;
 
 pub use content::find;
+pub use outcomes::{Answered, Outcome, Turn};
+pub use rows::build_changed;
+pub use seeking::{Sought, seek};
 pub use seen::{Seen, read_row};
+pub use turns::turn;
 
 #[cfg(test)]
 mod tests;

@@ -15,7 +15,7 @@ pub enum Call {
 
 impl Call {
     /// The answer of a set in which the key is present or not.
-    pub(crate) fn answer(self, present: bool) -> bool
+    pub fn answer(self, present: bool) -> bool
         ensures { result ≡ answer_where self present }
     {
         match self {

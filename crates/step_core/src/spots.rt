@@ -25,7 +25,7 @@ pub(crate) fn bucket_count(exponent: u32) -> u64
 
 /// The bucket of the key, counted from 0, in a generation of this exponent.
 #[tactic(auto, using(crate::proofs::seen::Spots::masks))]
-pub(crate) fn bucket_of(key: u64, exponent: u32) -> u64
+pub fn bucket_of(key: u64, exponent: u32) -> u64
     requires { exponent ≤ max_exponent }
     ensures { result ≡ bucket_of exponent (spot_of key) }
 {

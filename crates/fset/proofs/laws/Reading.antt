@@ -11,6 +11,7 @@ use Rattle.step_core.specs.declared.views.Known.{Known}
 use Rattle.step_core.specs.declared.views.FixedCell.{FixedCell}
 use Rattle.step_core.specs.declared.views.PassView.{PassView}
 use Rattle.step_core.specs.declared.views.StepCounts.{StepCounts}
+use Rattle.cells.specs.Exchanges.{list_with_op}
 use Rattle.cells.specs.Frames.{OnlyReads, after_reads}
 use Rattle.cells.specs.Known.{known_block, KnowsRow, block_at, row_at, keys_at}
 use Rattle.cells.specs.Sound.{IsSound}
@@ -18,10 +19,11 @@ use Rattle.cells.specs.Steps.{LoadsSealed}
 use Rattle.cells.proofs.laws.Known.{row_stays}
 use Rattle.cells.proofs.laws.HeadLoads.{load_sealed_known, load_sealed_grows, load_sealed_still}
 use Rattle.cells.proofs.laws.Sealed.{row_count, row_op}
-use Rattle.fset.specs.Content.{seen_content}
-use Rattle.fset.specs.Frames.{Reads}
+use Rattle.fset.specs.Content.{seen_content, seen_keys}
+use Rattle.fset.specs.Frames.{Grows, Reads}
 use Rattle.fset.specs.Seen.{KnowsRowAt, HasResult, IsSeen, ReadsRow, fixed_result}
 use Rattle.fset.specs.declared.seen.Seen.{Seen}
+use Rattle.fset.proofs.laws.Frames.{behind_self, grows_then, reads_grow}
 
 -- So many loads of sealed words more.
 abbrev more_loads : ℕ → StepCounts → StepCounts
@@ -43,7 +45,7 @@ after_reads-both first second view = λ i. record view { made = more_loads-both 
 
 -- Reading nothing is a reading.
 pub reads_self : (view : PassView) → Reads [] 0 view view
-reads_self view = record { only = refl; known = refl; front = prefix_refl view.front; made = sym (more_loads-none view.made) }
+reads_self view = record { only = refl; grows = subst (Grows [] 0 0 view) (after_reads-none view) (reads_grow 0 view); made = sym (more_loads-none view.made) }
 
 -- What was read first and then is what both readings read.
 pub reads_both : (first second : List Known) (loads more : ℕ) (old between new : PassView) → Reads first loads old between
@@ -59,8 +61,7 @@ reads_both first second loads more old between new one two = record {
     fixed = new.fixed;
     made = new.made;
   }) one.only;
-  known = two.known ∙ ap (λ (known : List Known). second ++ known) one.known ∙ sym (append_assoc second first old.known);
-  front = prefix_trans old.front between.front new.front one.front two.front;
+  grows = grows_then first second 0 0 0 0 old between new one.grows two.grows;
   made = two.made ∙ ap (more_loads more) one.made ∙ more_loads-both loads more old.made;
 }
 
@@ -92,6 +93,19 @@ pub seen_content-plain : (view : PassView) (seen : Seen) (key : ℕ) → seen.op
 seen_content-plain view seen key plain =
     let keys : ℕ → Bool = is_in (keys_at view seen.at) in
     ap (λ (b : Bool). cond b keys (keys_with_op (block_at view.known seen.op) seen.result keys) key) (eq-eqb seen.op 0 plain)
+
+-- The same as a rising list.
+pub seen_keys-plain : (view : PassView) (seen : Seen) → seen.op ≡ 0 → seen_keys view seen ≡ keys_at view seen.at
+seen_keys-plain view seen plain =
+    let keys = keys_at view seen.at in
+    ap (λ (b : Bool). cond b keys (list_with_op (block_at view.known seen.op) seen.result keys)) (eq-eqb seen.op 0 plain)
+
+-- So far no row has an operation, so its content is its keys, also after loads that told nothing new.
+pub seen_keys_are : (loads : ℕ) (old new : PassView) (seen : Seen) → IsSound old → IsSeen old seen → new ≡ after_reads loads old
+    → seen_keys old seen ≡ keys_at new seen.at
+seen_keys_are loads old new seen sound agrees same =
+    seen_keys-plain old seen (agrees.op ∙ sound.so_far.no_op seen.at (row_at old.known seen.at) agrees.known)
+    ∙ sym (ap (λ (view : PassView). keys_at view seen.at) same)
 
 module _ (at : ℕ) (old : PassView) (known : KnowsRowAt old at) (word : ℕ) (new : PassView) where
   -- a load of a word that isn't the second is counted, and changes nothing else
@@ -127,8 +141,16 @@ module _ (at : ℕ) (old : PassView) (known : KnowsRowAt old at) (word : ℕ) (n
         learned = loads.learned;
         reads = record {
           only = subst (OnlyReads old) (sym loads.view) refl;
-          known = more;
-          front = load_sealed_grows (at + 1) between word new loads;
+          grows = subst (Grows loads.learned 0 0 old) (sym loads.view) (record {
+            number = refl;
+            facts = refl;
+            front = loads.grows;
+            known = refl;
+            fixed = behind_self old.fixed;
+            asked = behind_self old.asked;
+            drawn = sym (add-zero old.drawn);
+            lost = sym (add-zero old.lost);
+          });
           made = ap (λ (view : PassView). view.made) loads.view ∙ more_loads-both 1 1 old.made;
         };
         nothing = λ zero. loads.nothing at 1 (Row row)

@@ -1,0 +1,103 @@
+-- What calls leave of a pass's view adds up: what the first learned, drew and lost, and then the second.
+use Rattle.std.proofs.Common.{◌≡◌, ℕ, ◌+◌, ◌≤◌, List, [], ◌∷◌, ◌++◌, length, Option, Some, refl, sym, ap, ◌∙◌, subst, append_assoc, add-zero, arith}
+use mathlib.Core.List.{IsPrefix}
+use base.Growing.{prefix_refl, prefix_trans}
+use Rattle.std.proofs.Math.Nat.{le-max_left, le-max_right}
+use Rattle.step_core.specs.declared.published.Published.{Published}
+use Rattle.step_core.specs.declared.published.Published.TheVariants.{Generation, Row, Op}
+use Rattle.step_core.specs.declared.published.RowBlock.{RowBlock}
+use Rattle.step_core.specs.declared.views.Known.{Known}
+use Rattle.step_core.specs.declared.views.PassView.{PassView}
+use Rattle.cells.specs.Frames.{OnlyDraws, after_reads}
+use Rattle.cells.specs.Known.{known_block}
+use Rattle.fset.specs.Frames.{IsBehind, Grows, KeepsOwn, latest_row, row_or, width_of, widest}
+
+-- A list is behind itself, and behind what is behind one that it is behind.
+pub behind_self : {A : Type 0} (list : List A) → IsBehind list list
+behind_self list = ([], refl)
+
+pub behind_then : {A : Type 0} (old between new : List A) → IsBehind old between → IsBehind between new → IsBehind old new
+behind_then {A} old between new (first, one) (second, two) =
+    (second ++ first, two ∙ ap (λ (list : List A). second ++ list) one ∙ sym (append_assoc second first old))
+
+-- A view that grew and grew again grew by both.
+pub grows_then : (first second : List Known) (words more losses lost : ℕ) (old between new : PassView)
+    → Grows first words losses old between → Grows second more lost between new
+    → Grows (second ++ first) (words + more) (losses + lost) old new
+grows_then first second words more losses lost old between new one two = record {
+  number = two.number ∙ one.number;
+  facts = two.facts ∙ one.facts;
+  front = prefix_trans old.front between.front new.front one.front two.front;
+  known = two.known ∙ ap (λ (known : List Known). second ++ known) one.known ∙ sym (append_assoc second first old.known);
+  fixed = behind_then old.fixed between.fixed new.fixed one.fixed two.fixed;
+  asked = behind_then old.asked between.asked new.asked one.asked two.asked;
+  drawn = omega (arith, one.drawn, two.drawn);
+  lost = omega (arith, one.lost, two.lost);
+}
+
+-- The pass's own stays over both where it stays over each.
+pub own_then : (old between new : PassView) → KeepsOwn old between → KeepsOwn between new → KeepsOwn old new
+own_then old between new one two = record {
+  mine = two.mine ∙ one.mine;
+  flight = two.flight ∙ one.flight;
+  used = two.used ∙ one.used;
+}
+
+-- Loads that told nothing new leave the view, and the pass's own.
+pub reads_grow : (loads : ℕ) (view : PassView) → Grows [] 0 0 view (after_reads loads view)
+reads_grow loads view = record {
+  number = refl;
+  facts = refl;
+  front = prefix_refl view.front;
+  known = refl;
+  fixed = behind_self view.fixed;
+  asked = behind_self view.asked;
+  drawn = sym (add-zero view.drawn);
+  lost = sym (add-zero view.lost);
+}
+
+pub reads_own : (loads : ℕ) (view : PassView) → KeepsOwn view (after_reads loads view)
+reads_own loads view = record { mine = refl; flight = refl; used = refl }
+
+-- Draws and writes leave what is known and lost, and the pass's own.
+pub draws_grow : (words : ℕ) (old new : PassView) → OnlyDraws old new → new.drawn ≡ old.drawn + words → Grows [] words 0 old new
+draws_grow words old new only drawn = record {
+  number = ap (λ (view : PassView). view.number) only;
+  facts = ap (λ (view : PassView). view.facts) only;
+  front = subst (IsPrefix old.front) (sym (ap (λ (view : PassView). view.front) only)) (prefix_refl old.front);
+  known = ap (λ (view : PassView). view.known) only;
+  fixed = ([], ap (λ (view : PassView). view.fixed) only);
+  asked = ([], ap (λ (view : PassView). view.asked) only);
+  drawn = drawn;
+  lost = ap (λ (view : PassView). view.lost) only ∙ sym (add-zero old.lost);
+}
+
+pub draws_own : (old new : PassView) → OnlyDraws old new → KeepsOwn old new
+draws_own old new only = record {
+  mine = ap (λ (view : PassView). view.mine) only;
+  flight = ap (λ (view : PassView). view.flight) only;
+  used = ap (λ (view : PassView). view.used) only;
+}
+
+-- Among learned blocks no row is wider than the widest: not the first,
+pub widest-first : (at : ℕ) (row : RowBlock) (others : List Known) → length row.keys ≤ widest (known_block at (Row row) ∷ others)
+widest-first at row others = le-max_left (length row.keys) (widest others)
+
+-- and none behind it.
+pub widest-more : (known : Known) (others : List Known) → widest others ≤ widest (known ∷ others)
+widest-more known others = le-max_right (width_of known.block) (widest others)
+
+-- the row that was learned last, by the kind of the first block
+latest_fits : (block : Published) (other : Option RowBlock) (most : ℕ) (row : RowBlock) → row_or block other ≡ Some row → width_of block ≤ most
+    → (other ≡ Some row → length row.keys ≤ most) → length row.keys ≤ most
+latest_fits (Generation generation) other most row latest fits behind = behind latest
+latest_fits (Row first) other most row latest fits behind =
+    let same : first ≡ row = cc in subst (λ (row : RowBlock). length row.keys ≤ most) same fits
+latest_fits (Op op) other most row latest fits behind = behind latest
+
+-- nor is the one that was learned last
+pub widest-latest : (learned : List Known) (row : RowBlock) → latest_row learned ≡ Some row → length row.keys ≤ widest learned
+widest-latest [] row latest = absurd (cc)
+widest-latest (known ∷ others) row latest =
+    latest_fits known.block (latest_row others) (widest (known ∷ others)) row latest (le-max_left (width_of known.block) (widest others))
+    (λ behind. let fits = widest-latest others row behind in let more = widest-more known others in omega (arith, fits, more))

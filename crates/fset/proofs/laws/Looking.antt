@@ -1,0 +1,186 @@
+-- The load of the head and of a key's bucket open a turn that has loaded that bucket.
+use Rattle.std.proofs.Common.{◌≡◌, ℕ, ◌+◌, ◌^◌, ◌<◌, ◌≤◌, List, [], ◌∷◌, ◌++◌, length, Option, Some, refl, sym, ap, ◌∙◌, subst, add-zero, arith}
+use Rattle.std.proofs.Math.Nat.{mod-lt}
+use Rattle.std.proofs.lemmas.Nat.{pow_pos}
+use Rattle.std.specs.List.{Contains}
+use mathlib.Core.List.{IsPrefix}
+use Rattle.set_model.specs.History.{members_after}
+use Rattle.set_model.specs.Keys.{is_in}
+use Rattle.set_model.specs.declared.entry.Entry.{Entry}
+use Rattle.step_core.specs.Buckets.{key_bucket}
+use Rattle.step_core.specs.Content.{InClass, spot_of}
+use Rattle.step_core.specs.Format.{row_address}
+use Rattle.step_core.specs.declared.format.TheConstants.{FIRST_BUCKET}
+use Rattle.step_core.specs.declared.published.Published.TheVariants.{Generation, Row}
+use Rattle.step_core.specs.declared.published.GenerationBlock.{GenerationBlock}
+use Rattle.step_core.specs.declared.views.BucketLoad.{BucketLoad}
+use Rattle.step_core.specs.declared.views.Known.{Known}
+use Rattle.step_core.specs.declared.views.OpenTurn.{OpenTurn}
+use Rattle.step_core.specs.declared.views.PassView.{PassView}
+use Rattle.step_core.specs.declared.views.RoundFacts.{RoundFacts}
+use Rattle.step_core.specs.declared.views.StepCounts.{StepCounts}
+use Rattle.cells.specs.Exchanges.{load_of}
+use Rattle.cells.specs.Frames.{after_reads}
+use Rattle.cells.specs.Known.{known_block, IsBucketWord, KnowsBucket, KnowsGeneration}
+use Rattle.cells.specs.Sound.{IsSound}
+use Rattle.cells.specs.Steps.{LoadsBucket, LoadsHead, LoadsSealed}
+use Rattle.cells.proofs.laws.BucketLoads.{load_bucket_among, load_bucket_learned, load_bucket_grows, load_bucket_lost_none, load_bucket_mutable}
+use Rattle.cells.proofs.laws.HeadLoads.{load_head_knows, load_head_turn, load_sealed_still}
+use Rattle.cells.proofs.laws.Known.{knows_more}
+use Rattle.cells.proofs.laws.Sealed.{exponent_word}
+use Rattle.cells.proofs.laws.Within.{generation_within}
+use Rattle.fset.specs.Content.{front_has}
+use Rattle.fset.specs.Frames.{Grows, KeepsOwn}
+use Rattle.fset.specs.Seeking.{HasLoaded, LoadsKeyBucket}
+use Rattle.fset.proofs.laws.Frames.{behind_self, grows_then, own_then, reads_grow, reads_own}
+
+-- A load of the head grows the view by the head's generation.
+head_grows : (old : PassView) (word : ℕ) (new : PassView) (loads : LoadsHead old word new)
+    → Grows (known_block word (Generation loads.generation) ∷ []) 0 0 old new × KeepsOwn old new
+head_grows old word new loads = (
+  subst (λ (view : PassView). Grows (known_block word (Generation loads.generation) ∷ []) 0 0 old view) (sym loads.view) (record {
+    number = refl;
+    facts = refl;
+    front = loads.grows;
+    known = refl;
+    fixed = behind_self old.fixed;
+    asked = behind_self old.asked;
+    drawn = sym (add-zero old.drawn);
+    lost = sym (add-zero old.lost);
+  }),
+  subst (KeepsOwn old) (sym loads.view) (record { mine = refl; flight = refl; used = refl }),
+)
+
+-- A load of a bucket grows it by the row that its word names.
+bucket_grows : (place : ℕ) (old : PassView) (word : ℕ) (new : PassView) (loads : LoadsBucket place old word new)
+    → Grows (known_block (row_address word) (Row loads.row) ∷ []) 0 0 old new × KeepsOwn old new
+bucket_grows place old word new loads = (
+  record {
+    number = ap (λ (view : PassView). view.number) loads.view;
+    facts = ap (λ (view : PassView). view.facts) loads.view;
+    front = load_bucket_grows place old word new loads;
+    known = load_bucket_learned place old word new loads loads.so_far.some_row;
+    fixed = ([], ap (λ (view : PassView). view.fixed) loads.view);
+    asked = ([], ap (λ (view : PassView). view.asked) loads.view);
+    drawn = ap (λ (view : PassView). view.drawn) loads.view ∙ sym (add-zero old.drawn);
+    lost = load_bucket_lost_none place old word new loads loads.so_far.mutable ∙ sym (add-zero old.lost);
+  },
+  record {
+    mine = ap (λ (view : PassView). view.mine) loads.view;
+    flight = ap (λ (view : PassView). view.flight) loads.view;
+    used = ap (λ (view : PassView). view.used) loads.view;
+  },
+)
+
+-- A key's bucket is one of the generation's.
+pub key_bucket_small : (exponent key : ℕ) → key_bucket exponent key < 2 ^ exponent
+key_bucket_small exponent key = mod-lt (spot_of key) (pow_pos exponent)
+
+module _ (v0 v1 v2 : PassView) (head exponent : ℕ) (heads : LoadsHead v0 head v1) (reads : LoadsSealed head v1 exponent v2) where
+  -- the load of the exponent tells nothing new
+  still : v2 ≡ after_reads 1 v1
+  still = load_sealed_still head v1 exponent v2 reads head 0 (Generation heads.generation)
+      (record { known = load_head_knows v0 head v1 heads; sealed = omega arith; here = omega arith }) (λ e. absurd (omega (arith, e)))
+
+  head_known : KnowsGeneration v2 head heads.generation
+  head_known = subst (λ (view : PassView). KnowsGeneration view head heads.generation) (sym still) (load_head_knows v0 head v1 heads)
+
+  -- The word is the head's exponent,
+  pub exponent_is : exponent ≡ heads.generation.exponent
+  exponent_is = exponent_word v1 head heads.generation (load_head_knows v0 head v1 heads) exponent reads.reads
+
+  -- which is at most 24, and the head with its buckets lies in the arena.
+  pub head_within : IsSound v2 → (head + FIRST_BUCKET + 2 ^ exponent ≤ 2 ^ 28) × (exponent ≤ 24)
+  head_within sound =
+      let inside = generation_within v2 sound head heads.generation head_known in
+      let size : 2 ^ exponent ≡ 2 ^ heads.generation.exponent = ap (λ (e : ℕ). 2 ^ e) exponent_is in
+      (omega (arith, inside.0.small, size), omega (arith, inside.1, exponent_is))
+
+  module _ (key place : ℕ) (here : place ≡ head + FIRST_BUCKET + key_bucket exponent key) where
+    -- The place is the word of the key's bucket.
+    pub key_bucket_word : IsBucketWord v2 place head (key_bucket heads.generation.exponent key) heads.generation
+    key_bucket_word = record {
+      known = head_known;
+      within = key_bucket_small heads.generation.exponent key;
+      here = here ∙ ap (λ (e : ℕ). head + FIRST_BUCKET + key_bucket e key) exponent_is;
+    }
+
+    -- So it may be loaded.
+    pub knows_key_bucket : KnowsBucket v2 place
+    knows_key_bucket = (head, key_bucket heads.generation.exponent key, heads.generation, key_bucket_word)
+
+    module _ (v3 : PassView) (word : ℕ) (sound : IsSound v2) (loads : LoadsBucket place v2 word v3) where
+      turn_open : v2.turn ≡ Some (record { head = head; seen = heads.seen; loads = [] })
+      turn_open = ap (λ (view : PassView). view.turn) still ∙ load_head_turn v0 head v1 heads
+
+      -- the open turn has the load
+      among : (now : OpenTurn) × (v3.turn ≡ Some now) × (now.head ≡ head) × (now.seen ≡ heads.seen)
+          × (now.loads ≡ load_of head (key_bucket heads.generation.exponent key) word ∷ [])
+      among = load_bucket_among place v2 word v3 loads (record { head = head; seen = heads.seen; loads = [] }) turn_open head
+          (key_bucket heads.generation.exponent key) heads.generation sound key_bucket_word loads.so_far.mutable
+
+      grown : Grows (known_block (row_address word) (Row loads.row) ∷ known_block head (Generation heads.generation) ∷ []) 0 0 v0 v3
+      grown =
+          let first = head_grows v0 head v1 heads in
+          let second = subst (Grows [] 0 0 v1) (sym still) (reads_grow 1 v1) in
+          let third = bucket_grows place v2 word v3 loads in
+          let both = grows_then (known_block head (Generation heads.generation) ∷ []) [] 0 0 0 0 v0 v1 v2 first.0 second in
+          grows_then (known_block head (Generation heads.generation) ∷ []) (known_block (row_address word) (Row loads.row) ∷ []) 0 0 0 0
+          v0 v2 v3 both third.0
+
+      own : KeepsOwn v0 v3
+      own = own_then v0 v2 v3 (own_then v0 v1 v2 (head_grows v0 head v1 heads).1 (subst (KeepsOwn v1) (sym still) (reads_own 1 v1)))
+          (bucket_grows place v2 word v3 loads).1
+
+      loaded : HasLoaded v3 key place word
+      loaded = record {
+        turn = among.0;
+        is_turn = among.1;
+        generation = heads.generation;
+        is_word = record {
+          known = subst (λ (h : ℕ). KnowsGeneration v3 h heads.generation) (sym among.2)
+              (knows_more (known_block (row_address word) (Row loads.row) ∷ []) v2 v3
+              (load_bucket_learned place v2 word v3 loads loads.so_far.some_row) head (Generation heads.generation) head_known);
+          within = key_bucket_word.within;
+          here = key_bucket_word.here ∙ ap (λ (h : ℕ). h + FIRST_BUCKET + key_bucket heads.generation.exponent key) (sym among.2);
+        };
+        loaded = subst (λ (z : List BucketLoad × ℕ). Contains z.0 (load_of z.1 (key_bucket heads.generation.exponent key) word))
+            (λ i. (sym among.4 i, sym among.2 i)) (0, omega arith, refl);
+        some_row = loads.so_far.some_row;
+        mutable = loads.so_far.mutable;
+      }
+
+      -- the row is of the key's class
+      home : InClass loads.row.exponent loads.row.bucket key
+      home =
+          let at_home = loads.home head (key_bucket heads.generation.exponent key) heads.generation key_bucket_word loads.so_far.some_row in
+          ap (λ (e : ℕ). key_bucket e key) at_home.0 ∙ sym at_home.1
+
+      agrees : loads.row.op ≡ 0 → is_in loads.row.keys key ≡ front_has v3 key
+      agrees plain =
+          loads.agrees loads.so_far.some_row loads.so_far.mutable plain key home
+          ∙ (λ i. members_after (is_in (sym (ap (λ (view : PassView). view.facts) loads.view) i).keys)
+          (sym (load_bucket_mutable place v2 word v3 loads loads.so_far.mutable) i) key)
+
+      -- The key's bucket is loaded.
+      pub key_bucket_loaded : LoadsKeyBucket key v0 (record { place = place; word = word }) v3
+      key_bucket_loaded = record {
+        head = head;
+        generation = heads.generation;
+        row = loads.row;
+        grows = grown;
+        own = own;
+        loaded = loaded;
+        home = home;
+        agrees = agrees;
+        spent = ap (λ (view : PassView). view.spent) loads.view ∙ ap (λ (view : PassView). view.spent) still
+            ∙ ap (λ (view : PassView). view.spent) heads.view;
+        hands = ap (λ (view : PassView). view.hands) loads.view ∙ ap (λ (view : PassView). view.hands) still
+            ∙ ap (λ (view : PassView). view.hands) heads.view;
+        made = ap (λ (view : PassView). view.made) loads.view
+            ∙ ap (λ (view : PassView). record view.made { bucket_loads = view.made.bucket_loads + 1 }) still
+            ∙ ap (λ (view : PassView). record view.made {
+              sealed_loads = view.made.sealed_loads + 1;
+              bucket_loads = view.made.bucket_loads + 1;
+            }) heads.view;
+      }

@@ -1,0 +1,333 @@
+-- How a turn ends, from the key's bucket and row being found: it is answered by reading or by its exchange, is lost, or is Full.
+use Rattle.std.proofs.Common.{◌≡◌, ◌≢◌, ℕ, ◌+◌, ◌-◌, ◌*◌, ◌^◌, ◌≤◌, ◌<◌, ◌==◌, ◌⊎◌, Bool, true, false, not, ◌&&◌, ◌||◌, nat_eq, List, [], ◌∷◌, ◌++◌, length, drop, Option, Some, None, inl, inr, ⊎_elim, refl, sym, ap, ◌∙◌, subst, add-zero, arith}
+use mathlib.Core.List.{IsPrefix}
+use base.Growing.{prefix_refl, prefix_trans}
+use Rattle.std.proofs.lemmas.Bool.Decides.{nat_tests}
+use Rattle.std.specs.List.Sorted.{IsStrictlyIncreasing}
+use Rattle.arena.specs.Hands.{words_at}
+use Rattle.set_model.specs.Call.{answer_where, members_after_call}
+use Rattle.set_model.specs.Keys.{is_in}
+use Rattle.set_model.specs.declared.call.Call.{Call}
+use Rattle.set_model.specs.declared.call.Call.TheVariants.{Insert, Remove, Contains}
+use Rattle.set_model.specs.declared.entry.Entry.{Entry}
+use Rattle.step_core.specs.Buckets.{key_bucket}
+use Rattle.step_core.specs.Content.{InClass}
+use Rattle.step_core.specs.Format.{row_address, row_words}
+use Rattle.step_core.specs.Rising.{Change, ChangesKeys, change_of, keys_after_call}
+use Rattle.step_core.specs.declared.format.TheConstants.{FIRST_KEY}
+use Rattle.step_core.specs.declared.published.Published.TheVariants.{Row}
+use Rattle.step_core.specs.declared.published.RowBlock.{RowBlock}
+use Rattle.step_core.specs.declared.views.Known.{Known}
+use Rattle.step_core.specs.declared.views.PassView.{PassView}
+use Rattle.step_core.specs.declared.views.RoundFacts.{RoundFacts}
+use Rattle.step_core.proofs.lists.Calls.{IsStrictlyIncreasing-after_call, is_in-after_call}
+use Rattle.step_core.proofs.lists.Change.{change_of-after_call}
+use Rattle.step_core.proofs.lists.Places.{length-with_key, length-without_key}
+use Rattle.cells.specs.Exchanges.{MaySwapRow, SwapsRow, LosesSwap, content_keys, entry_by, hand_keys, named_row, swap_change, swap_entry, swapped_row}
+use Rattle.cells.specs.Frames.{after_reads}
+use Rattle.cells.specs.Known.{known_block, row_at, keys_at, KnowsRow}
+use Rattle.cells.specs.Sound.{IsSound}
+use Rattle.cells.specs.Tokens.{BlockValue}
+use Rattle.cells.proofs.laws.AfterSwaps.{row_fits, won_front, won_mine, lost_mine}
+use Rattle.cells.proofs.laws.Known.{knows_first}
+use Rattle.cells.proofs.laws.Swaps.{content_keys-plain}
+use Rattle.fset.specs.Answers.{Enters, HasPast, ReadsSet, entry_for}
+use Rattle.fset.specs.Content.{front_has, seen_content}
+use Rattle.fset.specs.Frames.{Grows, KeepsOwn, Spends, latest_row, row_cost, turns_cost, widest}
+use Rattle.fset.specs.Rows.{Builds, RefusesRow, IsFull}
+use Rattle.fset.specs.Seen.{IsSeen}
+use Rattle.fset.specs.Seeking.{IsUnderWay, Seeks}
+use Rattle.fset.specs.Turns.{AnswersTurn, IsWidth, LosesTurn, RefusesTurn, leaves_key, most_keys}
+use Rattle.fset.specs.declared.seeking.Sought.{Sought}
+use Rattle.fset.proofs.laws.Frames.{behind_self, draws_grow, draws_own, grows_then, own_then, reads_grow, reads_own, widest-first, widest-latest}
+use Rattle.fset.proofs.laws.Built.{row_room}
+use Rattle.fset.proofs.laws.Reading.{seen_content-plain}
+use Rattle.fset.proofs.laws.Sought.{under_way_then}
+
+-- a test that denies another
+not_true : (b : Bool) → not b ≡ true → b ≡ false
+not_true true is = absurd (cc)
+not_true false is = refl
+
+not_false : (b : Bool) → not b ≡ false → b ≡ true
+not_false true is = refl
+not_false false is = absurd (cc)
+
+-- An insert or a remove that has an answer of true changes the keys.
+changes_keys : (call : Call) (key : ℕ) (keys : List ℕ) (taken : Bool) → call ≢ Contains → taken ≡ is_in keys key
+    → answer_where call taken ≡ true → ChangesKeys call key keys
+changes_keys Insert key keys taken writes is answer = sym is ∙ not_true taken answer
+changes_keys Remove key keys taken writes is answer = sym is ∙ answer
+changes_keys Contains key keys taken writes is answer = absurd (writes refl)
+
+-- One that has an answer of false leaves its key as it is.
+stays_as : (call : Call) (key : ℕ) (taken : Bool) → call ≢ Contains → answer_where call taken ≡ false → taken ≡ leaves_key call
+stays_as Insert key taken writes answer = not_false taken answer
+stays_as Remove key taken writes answer = answer
+stays_as Contains key taken writes answer = absurd (writes refl)
+
+-- A change leaves its key in the keys where it inserts it,
+is_left : (call : Call) (key : ℕ) (keys : List ℕ) → IsStrictlyIncreasing keys → ChangesKeys call key keys
+    → is_in (keys_after_call call key keys) key ≡ leaves_key call
+unfolding members_after_call
+is_left Insert key keys rising changes =
+    is_in-after_call Insert key keys key rising ∙ ap (λ (b : Bool). b || is_in keys key) (let self : nat_eq key key ≡ true = grind (arith, nat_tests) in self)
+is_left Remove key keys rising changes =
+    is_in-after_call Remove key keys key rising
+    ∙ ap (λ (b : Bool). not b && is_in keys key) (let self : nat_eq key key ≡ true = grind (arith, nat_tests) in self)
+is_left Contains key keys rising changes = absurd changes
+
+-- and the keys are at most one more then.
+at_most_one_more : (call : Call) (key : ℕ) (keys : List ℕ) → IsStrictlyIncreasing keys → ChangesKeys call key keys
+    → length (keys_after_call call key keys) ≤ length keys + 1
+at_most_one_more Insert key keys rising changes = omega (arith, length-with_key key keys changes)
+at_most_one_more Remove key keys rising changes = omega (arith, length-without_key key keys rising changes)
+at_most_one_more Contains key keys rising changes = absurd changes
+
+-- No known row without an operation is wider than a row may be.
+width_bound : (view : PassView) (at : ℕ) (row : RowBlock) (width : ℕ) → IsSound view → KnowsRow view at row → width ≡ length row.keys
+    → width ≤ most_keys view
+width_bound view at row width sound known is = omega (arith, is, row_fits view at row sound known)
+
+-- What an exchange leaves: lost, a turn more is lost,
+lost_grows : (view new : PassView) → LosesSwap view new → Grows [] 0 1 view new
+lost_grows view new lost = subst (Grows [] 0 1 view) (sym lost.view_is) (record {
+  number = refl;
+  facts = refl;
+  front = prefix_refl view.front;
+  known = refl;
+  fixed = behind_self view.fixed;
+  asked = behind_self view.asked;
+  drawn = sym (add-zero view.drawn);
+  lost = refl;
+})
+
+-- and won, the row is known.
+won_grown : (serial old at : ℕ) (view new : PassView) → SwapsRow serial old at view new
+    → Grows (known_block at (Row (swapped_row view old at)) ∷ []) 0 0 view new
+won_grown serial old at view new won =
+    subst (Grows (known_block at (Row (swapped_row view old at)) ∷ []) 0 0 view) (sym won.view_is) (record {
+      number = refl;
+      facts = refl;
+      front = prefix_trans view.front won.history (won.history ++ swap_entry view serial old at ∷ []) won.grows
+          (swap_entry view serial old at ∷ [], refl);
+      known = refl;
+      fixed = behind_self view.fixed;
+      asked = behind_self view.asked;
+      drawn = sym (add-zero view.drawn);
+      lost = sym (add-zero view.lost);
+    })
+
+module _ (key : ℕ) (call : Call) (v0 v1 v2 : PassView) (sought : Sought) (seeks : Seeks key v0 sought v1) (loads : ℕ)
+    (same : v2 ≡ after_reads loads v1) (sound : IsSound v2) (taken : Bool) (found : taken ≡ is_in (keys_at v1 sought.row.at) key)
+    (writes : call ≢ Contains) where
+  abbrev at : ℕ
+  at = sought.row.at
+
+  abbrev keys : List ℕ
+  keys = keys_at v2 at
+
+  -- looking for the key leaves the turn under way
+  way : IsUnderWay key 0 v0 sought v2
+  way = under_way_then key 0 v0 sought v1 v2 sound seeks.under_way (subst (Grows [] 0 0 v1) (sym same) (reads_grow loads v1))
+      (subst (KeepsOwn v1) (sym same) (reads_own loads v1)) (ap (λ (view : PassView). view.turn) same)
+
+  -- so far no row has an operation
+  plain : (row_at v2.known at).op ≡ 0
+  plain = sound.so_far.no_op at (row_at v2.known at) way.seen.known
+
+  rising : IsStrictlyIncreasing keys
+  rising = (sound.rows at (row_at v2.known at) way.seen.known).rising
+
+  -- The row is as it was read,
+  pub is_seen_still : IsSeen v2 sought.row
+  is_seen_still = way.seen
+
+  -- and has fewer keys than the arena has words.
+  pub row_small : sought.row.count < 2 ^ 32
+  row_small = let room = row_room v2 sought.row sound way.seen in omega (arith, room)
+
+  is : taken ≡ is_in keys key
+  is = found ∙ sym (ap (λ (view : PassView). is_in (keys_at view at) key) same)
+
+  -- the row is among those that the turn learned
+  read_fits : length keys ≤ widest way.learned
+  read_fits = subst (λ (row : RowBlock). length row.keys ≤ widest way.learned) (sym way.is_row) (widest-latest way.learned way.row way.latest)
+
+  -- A turn is answered by reading where the call wouldn't change the content.
+  pub answered_by_reading : (serial : ℕ) → answer_where call taken ≡ false
+      → AnswersTurn serial call key (record { changed = false; width = sought.row.count }) v0 v2
+  answered_by_reading serial answer =
+      let content : is_in keys key ≡ front_has v2 key =
+      sym (seen_content-plain v2 sought.row key (way.seen.op ∙ plain))
+      ∙ subst (λ (view : PassView). seen_content view sought.row key ≡ front_has view key) (sym same) seeks.agrees in
+      let is_keys : content_keys v2 way.row ≡ keys =
+      content_keys-plain v2 way.row (sym (ap (λ (row : RowBlock). row.op) way.is_row) ∙ plain) ∙ sym (ap (λ (row : RowBlock). row.keys) way.is_row) in
+      record {
+        spends = record { learned = way.learned; words = 0; grows = way.grows; bound = omega arith };
+        stands = record { own = way.own; answer_is = sym answer ∙ ap (answer_where call) (is ∙ content) };
+        width = record {
+          row = way.row;
+          latest = way.latest;
+          home = way.home;
+          counts = way.seen.count ∙ sym (ap length is_keys);
+          after = ap (λ (list : List ℕ). is_in list key) is_keys ∙ sym is ∙ stays_as call key taken writes answer;
+          bound = width_bound v2 at (row_at v2.known at) sought.row.count sound way.seen.known way.seen.count;
+        };
+      }
+
+  module _ (answer : answer_where call taken ≡ true) where
+    -- Else the call changes the keys.
+    pub changes : ChangesKeys call key keys
+    changes = changes_keys call key keys taken writes is answer
+
+    abbrev changed : List ℕ
+    changed = keys_after_call call key keys
+
+    -- what its row costs
+    cost_fits : (learned : List Known) (words : ℕ) → length keys ≤ widest learned → words ≤ row_cost (length changed)
+        → words ≤ turns_cost 1 (widest learned)
+    cost_fits learned words fits bound = omega (arith, bound, fits, at_most_one_more call key keys rising changes)
+
+    -- It is Full where the row was refused a block.
+    pub full_turn : (v3 : PassView) → RefusesRow changed v2 v3 → RefusesTurn v0 v3
+    full_turn v3 refuses = record {
+      spends = record {
+        learned = way.learned;
+        words = refuses.words;
+        grows = subst (λ (sum : ℕ). Grows way.learned sum 0 v0 v3) (let sum : 0 + refuses.words ≡ refuses.words = omega arith in sum)
+            (grows_then way.learned [] 0 refuses.words 0 0 v0 v2 v3 way.grows (draws_grow refuses.words v2 v3 refuses.only refuses.drawn));
+        bound = cost_fits way.learned refuses.words read_fits refuses.bound;
+      };
+      own = own_then v0 v2 v3 way.own (draws_own v2 v3 refuses.only);
+      full = record {
+        spent = refuses.full.spent;
+        cause = subst (λ (z : Option ℕ × ℕ). (z.0 ≢ None) ⊎ ((at : ℕ) × (v3.spent ≡ Some at) × (z.1 < at + refuses.words)))
+            (λ i. ((ap (λ (view : PassView). view.spent) same ∙ seeks.spent) i, (ap (λ (facts : RoundFacts). facts.cap) way.grows.facts) i)) refuses.full.cause;
+      };
+    }
+
+    module _ (block : BlockValue) (v3 : PassView) (builds : Builds changed block v2 v3) (sound3 : IsSound v3) where
+      -- The new row has no more than one key more.
+      pub changed_small : block.len - FIRST_KEY < 2 ^ 32
+      changed_small = let room = row_room v2 sought.row sound way.seen in
+          omega (arith, room, way.seen.count, builds.long, at_most_one_more call key keys rising changes)
+
+      built : IsUnderWay key builds.words v0 sought v3
+      built = under_way_then key builds.words v0 sought v2 v3 sound3 way (draws_grow builds.words v2 v3 builds.only builds.drawn)
+          (draws_own v2 v3 builds.only) (ap (λ (view : PassView). view.turn) builds.only)
+
+      built_fits : length keys ≤ widest built.learned
+      built_fits = subst (λ (row : RowBlock). length row.keys ≤ widest built.learned)
+          (sym built.is_row ∙ ap (λ (view : PassView). row_at view.known at) builds.only) (widest-latest built.learned built.row built.latest)
+
+      -- the row that the word names is the one that was read
+      named : named_row v3 sought.word ≡ row_at v2.known at
+      named = ap (row_at v3.known) (sym built.address)
+          ∙ ap (λ (view : PassView). row_at view.known at) builds.only
+
+      named_known : KnowsRow v3 (row_address sought.word) (named_row v3 sought.word)
+      named_known = subst (λ (from : ℕ). KnowsRow v3 from (row_at v3.known from)) built.address built.seen.known
+
+      in_hand : hand_keys v3 block.at ≡ changed
+      in_hand = ap (drop FIRST_KEY) builds.built
+
+      is_change : swap_change v3 sought.word block.at ≡ Some (record { call = call; key = key })
+      is_change =
+          (λ i. change_of ((content_keys-plain v3 (named_row v3 sought.word) (ap (λ (row : RowBlock). row.op) named ∙ plain)
+          ∙ ap (λ (row : RowBlock). row.keys) named) i) (in_hand i))
+          ∙ change_of-after_call call key keys rising changes
+
+      -- Else its exchange may be made.
+      pub may_exchange : v0.flight ≡ None → MaySwapRow v3 sought.place sought.word block.at
+      may_exchange idle = record {
+        turn = built.loaded.turn;
+        is_turn = built.loaded.is_turn;
+        bucket = key_bucket built.loaded.generation.exponent key;
+        generation = built.loaded.generation;
+        is_word = built.loaded.is_word;
+        loaded = built.loaded.loaded;
+        some_row = built.loaded.some_row;
+        mutable = built.loaded.mutable;
+        known = named_known;
+        settled = inl (ap (λ (row : RowBlock). row.op) named ∙ plain);
+        keys = changed;
+        built = builds.built;
+        rising = IsStrictlyIncreasing-after_call call key keys rising;
+        change = record { call = call; key = key };
+        is_change = is_change;
+        class = refl;
+        no_flight = built.own.flight ∙ idle;
+      }
+
+      -- It is lost with that.
+      pub lost_turn : (v4 : PassView) → LosesSwap v3 v4 → LosesTurn v0 v4
+      lost_turn v4 lost = record {
+        spends = record {
+          learned = built.learned;
+          words = builds.words;
+          grows = subst (λ (sum : ℕ). Grows built.learned sum 1 v0 v4) (add-zero builds.words)
+              (grows_then built.learned [] builds.words 0 0 1 v0 v3 v4 built.grows (lost_grows v3 v4 lost));
+          bound = cost_fits built.learned builds.words built_fits builds.bound;
+        };
+        own = own_then v0 v3 v4 built.own (record {
+          mine = ap (λ (view : PassView). view.mine) lost.view_is;
+          flight = ap (λ (view : PassView). view.flight) lost.view_is;
+          used = ap (λ (view : PassView). view.used) lost.view_is;
+        });
+        others = subst (λ (facts : RoundFacts). facts.seats ≢ 1) built.grows.facts lost.others;
+      }
+
+      module _ (v4 : PassView) (serial : ℕ) (won : SwapsRow serial sought.word block.at v3 v4) where
+        abbrev published : RowBlock
+        published = swapped_row v3 sought.word block.at
+
+        abbrev learned : List Known
+        learned = known_block block.at (Row published) ∷ built.learned
+
+        -- the row that it published has the changed keys
+        published_keys : content_keys v4 published ≡ changed
+        published_keys = in_hand
+
+        published_known : KnowsRow v4 block.at published
+        published_known = knows_first block.at (Row published) [] v3 v4 (ap (λ (view : PassView). view.known) won.view_is)
+
+        -- the entry is that of the call
+        is_entry : swap_entry v3 serial sought.word block.at ≡ entry_for v0.number serial call key true
+        is_entry = (λ i. entry_by (built.grows.number i) serial (is_change i))
+
+        entered : v0.flight ≡ None → Enters (entry_for v0.number serial call key true) v0 v4
+        entered idle = record {
+          past = record {
+            past = won.history;
+            rest = [];
+            begins = prefix_trans v0.front v3.front won.history built.grows.front won.grows;
+            is_front = won_front serial sought.word block.at v3 v4 won ∙ ap (λ (entry : Entry). won.history ++ entry ∷ []) is_entry;
+          };
+          mine = won_mine serial sought.word block.at v3 v4 won
+              ∙ (λ i. built.own.mine i ++ is_entry i ∷ []);
+          landed = ap (λ (view : PassView). view.flight) won.view_is ∙ built.own.flight ∙ idle;
+        }
+
+        -- It is answered where that is won.
+        pub answered_by_exchange : (width : ℕ) → IsSound v4 → v0.flight ≡ None → width ≡ length changed
+            → AnswersTurn serial call key (record { changed = true; width = width }) v0 v4
+        answered_by_exchange width sound4 idle is = record {
+          spends = record {
+            learned = learned;
+            words = builds.words;
+            grows = subst (λ (sum : ℕ). Grows learned sum 0 v0 v4) (add-zero builds.words)
+                (grows_then built.learned (known_block block.at (Row published) ∷ []) builds.words 0 0 0 v0 v3 v4 built.grows
+                (won_grown serial sought.word block.at v3 v4 won));
+            bound = omega (arith, builds.bound, widest-first block.at published built.learned, ap length in_hand);
+          };
+          stands = entered idle;
+          width = record {
+            row = published;
+            latest = refl;
+            home = subst (λ (row : RowBlock). InClass row.exponent row.bucket key) (sym (named ∙ way.is_row)) way.home;
+            counts = is ∙ sym (ap length published_keys);
+            after = ap (λ (list : List ℕ). is_in list key) published_keys ∙ is_left call key keys rising changes;
+            bound = width_bound v4 block.at published width sound4 published_known (is ∙ sym (ap length in_hand));
+          };
+        }

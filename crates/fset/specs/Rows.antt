@@ -1,0 +1,64 @@
+-- Building a row: its words stand in a block in hand, and nothing of it is published.
+use Rattle.std.specs.Prelude.{◌≡◌, ◌≢◌, ℕ, ◌+◌, ◌<◌, ◌≤◌, ◌⊎◌, List, [], ◌∷◌, length, Some, None}
+use Rattle.set_model.specs.declared.call.Call.{Call}
+use Rattle.arena.specs.Hands.{words_at}
+use Rattle.step_core.specs.Format.{row_words}
+use Rattle.step_core.specs.Rising.{keys_after_call}
+use Rattle.step_core.specs.declared.views.PassView.{PassView}
+use Rattle.step_core.specs.declared.views.StepCounts.{StepCounts}
+use Rattle.cells.specs.Frames.{OnlyDraws}
+use Rattle.cells.specs.Steps.{Draws, Writes}
+use Rattle.cells.specs.Tokens.{BlockValue}
+use Rattle.fset.specs.Content.{seen_keys}
+use Rattle.fset.specs.Frames.{row_cost}
+use Rattle.fset.specs.declared.seen.Seen.{Seen}
+
+-- of the steps that are counted only loads of sealed words, writes, and at most one draw were made
+pub record OnlyBuilds (before after : StepCounts) : Type 0 where
+  pub only : after ≡ record before {
+    sealed_loads = after.sealed_loads;
+    draws = after.draws;
+    writes = after.writes;
+  }
+  pub draws : after.draws ≤ before.draws + 1
+
+-- A row of these keys without an operation stands in the block. For it at most its own words were
+-- drawn.
+pub record Builds (keys : List ℕ) (block : BlockValue) (old new : PassView) : Type 0 where
+  pub only : OnlyDraws old new
+  pub built : words_at new.hands block.at ≡ row_words keys
+  pub long : block.len ≡ row_cost (length keys)
+  pub words : ℕ
+  pub drawn : new.drawn ≡ old.drawn + words
+  pub bound : words ≤ row_cost (length keys)
+  pub spent : new.spent ≡ old.spent
+  pub steps : OnlyBuilds old.made new.made
+
+-- the pass was spent, or a draw of these words passed the end and left it spent, with the place that
+-- it found
+pub record IsFull (words : ℕ) (old new : PassView) : Type 0 where
+  pub spent : new.spent ≢ None
+  pub cause : (old.spent ≢ None)
+      ⊎ ((at : ℕ) × (new.spent ≡ Some at) × (old.facts.cap < at + words))
+
+-- No block for a row of these keys was to be had. Blocks in hand are as they were.
+pub record RefusesRow (keys : List ℕ) (old new : PassView) : Type 0 where
+  pub only : OnlyDraws old new
+  pub hands : new.hands ≡ old.hands
+  pub words : ℕ
+  pub drawn : new.drawn ≡ old.drawn + words
+  pub bound : words ≤ row_cost (length keys)
+  pub full : IsFull words old new
+  pub steps : OnlyBuilds old.made new.made
+
+-- the content of a row with the call made on it, as a rising list
+abbrev pub changed_keys : Call → ℕ → PassView → Seen → List ℕ
+changed_keys call key view seen = keys_after_call call key (seen_keys view seen)
+
+-- A block was drawn for a row of so many keys, and the words before the keys stand in it.
+pub record StartsRow (count : ℕ) (block : BlockValue) (old new : PassView) : Type 0 where
+  pub between : PassView
+  pub draws : Draws old block.at (row_cost count) between
+  pub writes : Writes block.at 0 (count ∷ 0 ∷ 0 ∷ []) between new
+  pub room : length (words_at new.hands block.at) ≡ row_cost count
+  pub long : block.len ≡ row_cost count

@@ -1,0 +1,74 @@
+-- How one try of an insert or a remove ends.
+use Rattle.std.specs.Prelude.{◌≡◌, ◌≢◌, ℕ, ◌+◌, ◌-◌, ◌≤◌, ◌&&◌, Bool, true, false, List, length, Option, Some, ⊤}
+use Rattle.set_model.specs.Keys.{is_in}
+use Rattle.set_model.specs.declared.call.Call.{Call}
+use Rattle.set_model.specs.declared.call.Call.TheVariants.{Insert, Remove, Contains}
+use Rattle.step_core.specs.Content.{InClass}
+use Rattle.step_core.specs.declared.published.RowBlock.{RowBlock}
+use Rattle.step_core.specs.declared.views.Known.{Known}
+use Rattle.step_core.specs.declared.views.PassView.{PassView}
+use Rattle.step_core.specs.declared.views.StepCounts.{StepCounts}
+use Rattle.cells.specs.Exchanges.{content_keys}
+use Rattle.cells.specs.Past.{inserted_keys}
+use Rattle.fset.specs.declared.outcomes.Answered.{Answered}
+use Rattle.fset.specs.declared.outcomes.Turn.{Turn}
+use Rattle.fset.specs.declared.outcomes.Turn.TheVariants.{Done, Lost, Full}
+use Rattle.fset.specs.Answers.{AnswerStands}
+use Rattle.fset.specs.Frames.{KeepsOwn, Spends, latest_row, turns_cost}
+use Rattle.fset.specs.Rows.{IsFull}
+
+-- whether a call leaves its key in the set
+abbrev pub leaves_key : Call → Bool
+leaves_key Insert = true
+leaves_key Remove = false
+leaves_key Contains = false
+
+-- no row is wider, as far as the pass has seen: each key is the opening's or an insert's, and one
+-- may be that of an operation
+abbrev pub most_keys : PassView → ℕ
+most_keys view = length view.facts.keys + length (inserted_keys view.front) + 1
+
+-- The width is the number of keys of the row that the pass learned last, which is of the key's
+-- bucket and has the key where the call leaves it there.
+pub record IsWidth (call : Call) (key width : ℕ) (learned : List Known) (new : PassView)
+    : Type 0 where
+  pub row : RowBlock
+  pub latest : latest_row learned ≡ Some row
+  pub home : InClass row.exponent row.bucket key
+  pub counts : width ≡ length (content_keys new row)
+  pub after : is_in (content_keys new row) key ≡ leaves_key call
+  pub bound : width ≤ most_keys new
+
+-- it was answered
+pub record AnswersTurn (serial : ℕ) (call : Call) (key : ℕ) (answered : Answered)
+    (old new : PassView) : Type 0 where
+  pub spends : Spends (turns_cost 1) 0 old new
+  pub stands : AnswerStands serial call key answered.changed old new
+  pub width : IsWidth call key answered.width spends.learned new
+
+-- its exchange was lost, to another pass
+pub record LosesTurn (old new : PassView) : Type 0 where
+  pub spends : Spends (turns_cost 1) 1 old new
+  pub own : KeepsOwn old new
+  pub others : old.facts.seats ≢ 1
+
+-- a block that it needed wasn't to be had
+pub record RefusesTurn (old new : PassView) : Type 0 where
+  pub spends : Spends (turns_cost 1) 0 old new
+  pub own : KeepsOwn old new
+  pub full : IsFull spends.words old new
+
+-- how a turn ended
+abbrev pub EndsTurn : ℕ → Call → ℕ → Turn → PassView → PassView → Type 0
+EndsTurn serial call key (Done answered) old new = AnswersTurn serial call key answered old new
+EndsTurn serial call key Lost old new = LosesTurn old new
+EndsTurn serial call key Full old new = RefusesTurn old new
+
+-- the steps of one turn: one load of the head, one of a bucket, at most one draw and one exchange
+pub record AreOneTurn (before after : StepCounts) : Type 0 where
+  pub heads : after.head_loads ≡ before.head_loads + 1
+  pub buckets : after.bucket_loads ≡ before.bucket_loads + 1
+  pub draws : after.draws ≤ before.draws + 1
+  pub swaps : after.row_swaps ≤ before.row_swaps + 1
+  pub notes : after.notes ≡ before.notes
+  pub learned : after.learned ≡ before.learned

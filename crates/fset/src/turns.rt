@@ -1,0 +1,55 @@
+// One try of an insert or a remove.
+ghost use Rattle.std.specs.Prelude.{◌≡◌, ◌≢◌, ◌-◌, None};
+ghost use Rattle.cells.specs.Tokens.{HasNewCall, IsPassOf, IsSamePass};
+ghost use Rattle.fset.specs.Turns.{AreOneTurn, EndsTurn};
+ghost use Rattle.set_model.specs.declared.call.Call.TheVariants.{Contains};
+
+use crate::content::place_among;
+use crate::rows::build_at;
+use crate::{Answered, Turn, seek};
+use cells::{Pass, Round};
+use set_model::Call;
+use step_core::FIRST_KEY;
+
+/// Tries an insert or a remove once. The pass must have begun a call that has no entry, and have no
+/// operation in flight.
+///
+/// Where the call wouldn't change the set that the pass has seen when it loads the key's bucket, it
+/// is answered so. Else it takes effect by one exchange of the bucket, and has an entry in the
+/// history then. The exchange is lost only to another pass. In all cases no turn is open then.
+///
+/// After Liu, Zhang and Spear, Dynamic-sized nonblocking hash tables (PODC 2014).
+pub fn turn(round: &Round, pass: &mut Pass, call: Call, key: u64) -> Turn
+    requires pass { IsPassOf round.now pass.old }
+    requires call { (call ≢ Contains) × HasNewCall pass.old }
+    requires idle { pass.old.view.flight ≡ None }
+    ensures pass { IsSamePass pass.old pass.new }
+    ensures answer { EndsTurn (pass.old.calls - 1) call key result pass.old.view pass.new.view }
+    ensures steps { AreOneTurn pass.old.view.made pass.new.view.made }
+{
+    let sought = seek(round, pass, key);
+    let place = place_among(round, pass, &sought.row, key);
+    round.sound(pass);
+    if !call.answer(place.taken) {
+        return Turn::Done(Answered {
+            changed: false,
+            width: sought.row.count as u32,
+        });
+    }
+    let Ok(block) = build_at(round, pass, &sought.row, call, key, place.before) else {
+        return Turn::Full;
+    };
+    round.sound(pass);
+    let width = (block.len() - FIRST_KEY) as u32;
+    // The call takes effect here, where the bucket still has the word that was loaded.
+    let exchanged = round.swap_row(pass, sought.place, sought.word, block);
+    round.sound(pass);
+    match exchanged {
+        Ok(()) => Turn::Done(Answered {
+            changed: true,
+            width,
+        }),
+        // Another pass exchanged the bucket's row. The block stays in hand, and isn't used again.
+        Err(_) => Turn::Lost,
+    }
+}

@@ -41,10 +41,9 @@ pub record IsFull (words : ℕ) (old new : PassView) : Type 0 where
   pub cause : (old.spent ≢ None)
       ⊎ ((at : ℕ) × (new.spent ≡ Some at) × (old.facts.cap < at + words))
 
--- No block for a row of these keys was to be had. Blocks in hand are as they were.
+-- No block for a row of these keys was to be had.
 pub record RefusesRow (keys : List ℕ) (old new : PassView) : Type 0 where
   pub only : OnlyDraws old new
-  pub hands : new.hands ≡ old.hands
   pub words : ℕ
   pub drawn : new.drawn ≡ old.drawn + words
   pub bound : words ≤ row_cost (length keys)

@@ -1,5 +1,5 @@
 -- The bucket of a key, as the open turn of a pass loaded it, and its row.
-use Rattle.std.specs.Prelude.{◌≡◌, ℕ, ◌+◌, List, [], ◌∷◌, Contains, Option, Some}
+use Rattle.std.specs.Prelude.{◌≡◌, ℕ, ◌+◌, List, [], ◌∷◌, Contains, Some}
 use Rattle.set_model.specs.Keys.{is_in}
 use Rattle.step_core.specs.Buckets.{key_bucket}
 use Rattle.step_core.specs.Content.{InClass}

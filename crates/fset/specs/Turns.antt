@@ -1,5 +1,5 @@
 -- How one try of an insert or a remove ends.
-use Rattle.std.specs.Prelude.{◌≡◌, ◌≢◌, ℕ, ◌+◌, ◌-◌, ◌≤◌, ◌&&◌, Bool, true, false, List, length, Option, Some, ⊤}
+use Rattle.std.specs.Prelude.{◌≡◌, ◌≢◌, ℕ, ◌+◌, ◌≤◌, Bool, true, false, List, length, Some}
 use Rattle.set_model.specs.Keys.{is_in}
 use Rattle.set_model.specs.declared.call.Call.{Call}
 use Rattle.set_model.specs.declared.call.Call.TheVariants.{Insert, Remove, Contains}

@@ -1,5 +1,6 @@
 // Building a row in a block in hand, word by word.
-ghost use Rattle.std.specs.Prelude.{◌≡◌, ◌+◌, ◌-◌, ◌<◌, ◌≤◌, true, false, length, slice_range, IfOk, IfErr};
+ghost use Rattle.std.specs.Prelude.{◌≡◌, ◌+◌, ◌-◌, ◌<◌, ◌≤◌, false, length, slice_range, IfOk, IfErr};
+ghost use Rattle.std.specs.List.{remove};
 ghost use Rattle.arena.specs.Hands.{words_at};
 ghost use Rattle.cells.specs.Frames.{after_reads};
 ghost use Rattle.cells.specs.Known.{keys_at};
@@ -11,7 +12,7 @@ ghost use Rattle.fset.specs.Rows.{Builds, RefusesRow, StartsRow, changed_keys};
 ghost use Rattle.fset.specs.Seen.{KnowsRowAt, IsSeen};
 ghost use Rattle.set_model.specs.Keys.{is_in};
 ghost use Rattle.step_core.specs.Limits.{max_draw};
-ghost use Rattle.step_core.specs.Rising.{ChangesKeys, keys_after_call, place_in, with_key, without_key};
+ghost use Rattle.step_core.specs.Rising.{ChangesKeys, keys_after_call, place_in, with_key};
 
 use crate::Seen;
 use crate::content::{key_at, place_among};
@@ -68,7 +69,7 @@ pub(crate) fn build_at(
     round.sound(pass);
     match call {
         Call::Insert => build_with(round, pass, seen, key, before),
-        Call::Remove => build_without(round, pass, seen, key, before),
+        Call::Remove => build_without(round, pass, seen, before),
         Call::Contains => unreachable!(),
     }
 }
@@ -98,40 +99,35 @@ fn build_with(
     let Ok(mut block) = start_row(round, pass, seen.count + 1) else {
         return Err(Full);
     };
+    let middle = FIRST_KEY + before;
     copy_keys(round, pass, &mut block, seen.at, 0, before, FIRST_KEY);
-    round.write(pass, &mut block, FIRST_KEY + before, key);
-    copy_keys(round, pass, &mut block, seen.at, before, seen.count, FIRST_KEY + before + 1);
+    round.write(pass, &mut block, middle, key);
+    let behind = middle + 1;
+    copy_keys(round, pass, &mut block, seen.at, before, seen.count, behind);
     Ok(block)
 }
 
-// A row of the keys without one of them.
-fn build_without(
-    round: &Round,
-    pass: &mut Pass,
-    seen: &Seen,
-    key: u64,
-    before: u64,
-) -> Result<Block, Full>
+// A row of the keys without the one that has so many before it.
+fn build_without(round: &Round, pass: &mut Pass, seen: &Seen, before: u64) -> Result<Block, Full>
     requires pass { IsPassOf round.now pass.old }
     requires knows { IsSeen pass.old.view seen.now }
-    requires present { is_in (keys_at pass.old.view seen.now.at) key ≡ true }
-    requires before { before ≡ place_in (keys_at pass.old.view seen.now.at) key }
     requires within { before < seen.now.count }
     ensures pass { IsSamePass pass.old pass.new }
     ensures answer { IfOk result (λ block.
-        Builds (without_key key (keys_at pass.old.view seen.now.at)) block
+        Builds (remove (keys_at pass.old.view seen.now.at) before) block
         pass.old.view pass.new.view) }
     ensures full { IfErr result (λ _.
-        RefusesRow (without_key key (keys_at pass.old.view seen.now.at))
+        RefusesRow (remove (keys_at pass.old.view seen.now.at) before)
         pass.old.view pass.new.view) }
 {
     round.sound(pass);
-    let _key = key;
     let Ok(mut block) = start_row(round, pass, seen.count - 1) else {
         return Err(Full);
     };
+    let middle = FIRST_KEY + before;
     copy_keys(round, pass, &mut block, seen.at, 0, before, FIRST_KEY);
-    copy_keys(round, pass, &mut block, seen.at, before + 1, seen.count, FIRST_KEY + before);
+    let next = before + 1;
+    copy_keys(round, pass, &mut block, seen.at, next, seen.count, middle);
     Ok(block)
 }
 

@@ -1,7 +1,7 @@
 // Every row of an opening, found from the head. The rows expected are those of docs/FORMAT.md.
 ghost use Rattle.std.specs.Prelude.{◌≡◌, ◌≤◌, length, slice_index, IfOk, IfSome};
 ghost use Rattle.std.specs.List.Sorted.{IsStrictlyIncreasing};
-ghost use Rattle.cells.specs.Tokens.{IsPassOf, IsSamePass};
+ghost use Rattle.cells.specs.Tokens.{IsPassOf, IsSamePass, fresh_pass, fresh_passes};
 ghost use Rattle.fset.specs.Seen.{IsSeen};
 
 use super::*;
@@ -11,25 +11,46 @@ use std::alloc::Global;
 use std::test::Fail;
 use step_core::{FIRST_BUCKET, Layout, opening, opening_words, row_address, spot};
 
-// A round of one pass that begins with these keys, and the pass.
-fn begin(alloc: Global, keys: &[u64]) -> Result<(Round, Pass), NoMemory>
+mod turns;
+
+// A round that begins with these keys, and has so many words of room.
+fn begin_round(
+    alloc: Global,
+    seats: u32,
+    keys: &[u64],
+    room: u64,
+) -> Result<(Round, Vec<Pass>), NoMemory>
+    requires seats { (1 ≤ seats) × (seats ≤ 2) }
     requires rising { IsStrictlyIncreasing keys.now }
-    requires few { length keys.now ≤ 1000 }
-    ensures { IfOk result (λ r. IsPassOf r.0 r.1) }
+    requires few { (length keys.now ≤ 1000) × (room ≤ 1000) }
+    ensures passes { IfOk result (λ r. r.1.items ≡ fresh_passes r.0) }
+    ensures seats { IfOk result (λ r. r.0.facts.seats ≡ seats) }
 {
     let plan = Plan {
-        seats: 1,
+        seats,
         fast: 1,
         turns: 1,
-        room: 1,
+        room,
     };
     let layout = Layout {
-        seats: 1,
-        cap: opening_words(1, keys) + plan.room,
+        seats,
+        cap: opening_words(seats, keys) + plan.room,
     };
     let words = opening(alloc, &layout, keys)?;
-    let (round, mut passes) = Round::from_words(alloc, words, layout, plan)?;
-    Ok((round, passes.remove(0)))
+    Round::from_words(alloc, words, layout, plan)
+}
+
+// A round of one pass that begins with these keys, and the pass.
+fn begin(alloc: Global, keys: &[u64], room: u64) -> Result<(Round, Pass), NoMemory>
+    requires rising { IsStrictlyIncreasing keys.now }
+    requires few { (length keys.now ≤ 1000) × (room ≤ 1000) }
+    ensures pass { IfOk result (λ r. r.1 ≡ fresh_pass r.0 0) }
+{
+    let (round, mut passes) = begin_round(alloc, 1, keys, room)?;
+    match passes.pop() {
+        Some(pass) => Ok((round, pass)),
+        None => unreachable!(),
+    }
 }
 
 // The keys from 0 on, so many.
@@ -91,7 +112,7 @@ fn has_its_class(round: &Round, pass: &mut Pass, bucket: u64) -> bool
 // The example of docs/FORMAT.md. A row read from another word would fail here too.
 #[test]
 fn both_rows_of_five_keys_are_read(rt: HostRuntime) -> Result<(), Fail> {
-    let (round, mut pass) = begin(rt.alloc(), &[1, 2, 3, 4, 5])?;
+    let (round, mut pass) = begin(rt.alloc(), &[1, 2, 3, 4, 5], 1)?;
     let first = Seen {
         at: 8,
         count: 2,
@@ -114,7 +135,7 @@ fn both_rows_of_five_keys_are_read(rt: HostRuntime) -> Result<(), Fail> {
 // would fail here too.
 #[test]
 fn each_of_five_keys_is_found_in_one_row(rt: HostRuntime) -> Result<(), Fail> {
-    let (round, mut pass) = begin(rt.alloc(), &[1, 2, 3, 4, 5])?;
+    let (round, mut pass) = begin(rt.alloc(), &[1, 2, 3, 4, 5], 1)?;
     let cases = [
         (0, 1, false),
         (0, 2, true),
@@ -138,7 +159,7 @@ fn each_of_five_keys_is_found_in_one_row(rt: HostRuntime) -> Result<(), Fail> {
 #[test]
 fn each_of_a_thousand_keys_is_found_in_one_row(rt: HostRuntime) -> Result<(), Fail> {
     let keys = first_keys(rt.alloc(), 1000)?;
-    let (round, mut pass) = begin(rt.alloc(), &keys)?;
+    let (round, mut pass) = begin(rt.alloc(), &keys, 1)?;
     for bucket in 0..256 {
         assert!(rt; has_its_class(&round, &mut pass, bucket), "{bucket}");
     }

@@ -1,18 +1,20 @@
 -- A block that was drawn and written whole has the row, and a refused draw leaves no row.
-use Rattle.std.proofs.Common.{◌≡◌, ◌≢◌, ℕ, suc, ◌+◌, ◌-◌, ◌^◌, ◌<◌, ◌≤◌, true, false, List, [], ◌∷◌, ◌++◌, length, take, drop, slice_range, Option, Some, None, inl, inr, refl, sym, ap, ◌∙◌, subst, append_assoc, take_all, length-append, length-drop, arith}
+use Rattle.std.proofs.Common.{◌≡◌, ◌≢◌, ℕ, suc, ◌+◌, ◌-◌, ◌^◌, ◌<◌, ◌≤◌, false, List, [], ◌∷◌, ◌++◌, length, take, drop, slice_range, Option, Some, None, inl, inr, refl, sym, ap, ◌∙◌, subst, append_assoc, take_all, length-append, length-drop, arith}
 use Rattle.std.proofs.lemmas.List.{length-take-le}
+use Rattle.std.proofs.lemmas.List.Edits.{length-remove}
 use Rattle.std.specs.List.{insert, remove}
 use Rattle.std.specs.List.Sorted.{IsStrictlyIncreasing}
-use Rattle.arena.specs.Hands.{words_at}
 use Rattle.set_model.specs.Keys.{is_in}
+use Rattle.set_model.specs.declared.call.Call.{Call}
+use Rattle.set_model.specs.declared.call.Call.TheVariants.{Remove}
 use Rattle.step_core.specs.Format.{row_words}
-use Rattle.step_core.specs.Rising.{place_in, with_key, without_key}
+use Rattle.step_core.specs.Rising.{ChangesKeys, keys_after_call, place_in, with_key}
 use Rattle.step_core.specs.declared.format.TheConstants.{FIRST_KEY}
 use Rattle.step_core.specs.declared.views.PassView.{PassView}
 use Rattle.step_core.specs.declared.views.StepCounts.{StepCounts}
-use Rattle.step_core.proofs.lists.Places.{with_key-parts, without_key-parts, length-with_key, length-without_key, place_in-here}
+use Rattle.step_core.proofs.lists.Places.{with_key-parts, without_key-parts, length-with_key, place_in-here}
 use Rattle.cells.specs.Frames.{OnlyDraws, after_reads}
-use Rattle.cells.specs.Known.{row_at}
+use Rattle.cells.specs.Known.{keys_at, row_at}
 use Rattle.cells.specs.Sound.{IsSound}
 use Rattle.cells.specs.Steps.{RefusesDraw, Writes}
 use Rattle.cells.specs.Tokens.{BlockValue}
@@ -20,10 +22,10 @@ use Rattle.cells.proofs.laws.AfterDraws.{draws_keep, full_keeps, overdraws_keep,
 use Rattle.cells.proofs.laws.Within.{row_within}
 use Rattle.cells.proofs.laws.WritesAddUp.{length-drawn, writes_both, writes_whole}
 use Rattle.fset.specs.Frames.{row_cost}
-use Rattle.fset.specs.Rows.{Builds, IsFull, OnlyBuilds, RefusesRow, StartsRow}
+use Rattle.fset.specs.Rows.{Builds, OnlyBuilds, RefusesRow, StartsRow}
 use Rattle.fset.specs.Seen.{IsSeen}
 use Rattle.fset.specs.declared.seen.Seen.{Seen}
-use Rattle.fset.proofs.laws.Copying.{writes_reads}
+use Rattle.fset.proofs.laws.Copying.{writes_keys, writes_reads}
 use Rattle.fset.proofs.laws.Reading.{after_reads-both, after_reads-none}
 
 -- Draws and writes that follow each other keep what each keeps.
@@ -74,6 +76,13 @@ row_built keys block loads old started new starts rest =
           (omega arith);
     }
 
+-- Drawing a block and writing into it leaves the keys that are known.
+pub started_keys : (count row : ℕ) (block : BlockValue) (old new : PassView) → StartsRow count block old new
+    → keys_at new row ≡ keys_at old row
+started_keys count row block old new starts =
+    writes_keys block.at 0 row (count ∷ 0 ∷ 0 ∷ []) starts.between new starts.writes
+    ∙ ap (λ (view : PassView). keys_at view row) starts.draws.view
+
 -- A refused draw by whether the pass was spent.
 refused : (spent : Option ℕ) (keys : List ℕ) (old new : PassView) → old.spent ≡ spent → RefusesDraw old (row_cost (length keys)) new
     → RefusesRow keys old new
@@ -82,7 +91,6 @@ refused None keys old new was full =
     let keeps = overdraws_keep old over.0 (row_cost (length keys)) new over.1 in
     record {
       only = keeps.0;
-      hands = keeps.1;
       words = row_cost (length keys);
       drawn = keeps.2;
       bound = omega arith;
@@ -99,7 +107,6 @@ refused (Some place) keys old new was full =
     let keeps = full_keeps old (row_cost (length keys)) new full in
     record {
       only = keeps.keeps;
-      hands = keeps.hands;
       words = 0;
       drawn = omega (arith, ap (λ (view : PassView). view.drawn) same);
       bound = omega arith;
@@ -141,15 +148,15 @@ behind at before loads more low middle v1 v2 v3 place first second =
 length-low : (keys : List ℕ) (before : ℕ) → before ≤ length keys → length (take before keys) ≡ before
 length-low keys before within = length-take-le before keys within
 
-module _ (keys : List ℕ) (key before count : ℕ) (is_place : before ≡ place_in keys key) (is_count : count ≡ length keys)
+module _ (keys : List ℕ) (before count : ℕ) (is_count : count ≡ length keys)
     (block : BlockValue) (v0 v1 v2 : PassView) (within : before ≤ count)
     (low : Writes block.at FIRST_KEY (slice_range keys 0 before) (after_reads (before - 0) v1) v2) where
   -- The keys below a new one, that one, and the keys behind it are the keys with it.
-  pub with_built : (v3 v4 : PassView) → is_in keys key ≡ false → StartsRow (count + 1) block v0 v1
+  pub with_built : (key : ℕ) (v3 v4 : PassView) → before ≡ place_in keys key → is_in keys key ≡ false → StartsRow (count + 1) block v0 v1
       → Writes block.at (FIRST_KEY + before) (key ∷ []) v2 v3
       → Writes block.at (FIRST_KEY + before + 1) (slice_range keys before count) (after_reads (count - before) v3) v4
       → Builds (with_key key keys) block v0 v4
-  with_built v3 v4 absent starts put high =
+  with_built key v3 v4 is_place absent starts put high =
       let long = length-low keys before (omega (arith, within, is_count)) in
       let first = lower keys before block.at v1 v2 low in
       let second = behind block.at (FIRST_KEY + before) before 0 (take before keys) (key ∷ []) v1 v2 v3 (omega (arith, long)) first
@@ -166,24 +173,33 @@ module _ (keys : List ℕ) (key before count : ℕ) (is_place : before ≡ place
       omega (arith, is_count, length-with_key key keys absent) in more) starts)
       (subst (λ (list : List ℕ). Writes block.at FIRST_KEY list (after_reads (before + 0 + (count - before)) v1) v4) whole third)
 
-  -- The keys below one of them and the keys behind it are the keys without it.
-  pub without_built : (v3 : PassView) → IsStrictlyIncreasing keys → is_in keys key ≡ true → StartsRow (count - 1) block v0 v1
+  -- The keys before one of them and the keys behind it are the keys without it.
+  pub without_built : (v3 : PassView) → before < count → StartsRow (count - 1) block v0 v1
       → Writes block.at (FIRST_KEY + before) (slice_range keys (before + 1) count) (after_reads (count - (before + 1)) v2) v3
-      → Builds (without_key key keys) block v0 v3
-  without_built v3 rising present starts high =
+      → Builds (remove keys before) block v0 v3
+  without_built v3 inside starts high =
       let long = length-low keys before (omega (arith, within, is_count)) in
       let first = lower keys before block.at v1 v2 low in
       let second = behind block.at (FIRST_KEY + before) before (count - (before + 1)) (take before keys) (drop (before + 1) keys) v1 v2 v3
       (omega (arith, long)) first
       (subst (λ (list : List ℕ). Writes block.at (FIRST_KEY + before) list (after_reads (count - (before + 1)) v2) v3)
       (part_from keys (before + 1) count is_count) high) in
-      let whole : take before keys ++ drop (before + 1) keys ≡ without_key key keys =
-      ap (λ (n : ℕ). take before keys ++ drop n keys) (let next : before + 1 ≡ suc before = omega arith in next)
-      ∙ ap (remove keys) is_place ∙ sym (without_key-parts key keys rising present) in
-      row_built (without_key key keys) block (before + (count - (before + 1))) v0 v1 v3
-      (subst (λ (n : ℕ). StartsRow n block v0 v1) (let fewer : count - 1 ≡ length (without_key key keys) =
-      omega (arith, is_count, length-without_key key keys rising present) in fewer) starts)
+      let whole : take before keys ++ drop (before + 1) keys ≡ remove keys before =
+      ap (λ (n : ℕ). take before keys ++ drop n keys) (let next : before + 1 ≡ suc before = omega arith in next) in
+      row_built (remove keys before) block (before + (count - (before + 1))) v0 v1 v3
+      (subst (λ (n : ℕ). StartsRow n block v0 v1) (let fewer : count - 1 ≡ length (remove keys before) =
+      omega (arith, is_count, length-remove keys before (omega (arith, inside, is_count))) in fewer) starts)
       (subst (λ (list : List ℕ). Writes block.at FIRST_KEY list (after_reads (before + (count - (before + 1))) v1) v3) whole second)
+
+-- What a remove leaves of rising keys are those without the one at its key's place, which is among them.
+pub removed : (call : Call) (key : ℕ) (keys : List ℕ) (before : ℕ) → call ≡ Remove → IsStrictlyIncreasing keys → ChangesKeys call key keys
+    → before ≡ place_in keys key → (before < length keys) × (remove keys before ≡ keys_after_call call key keys)
+removed call key keys before is rising changes place =
+    let here = subst (λ (call : Call). ChangesKeys call key keys) is changes in
+    let inside = place_in-here keys key rising here in (
+      omega (arith, inside.0, place),
+      ap (remove keys) place ∙ sym (without_key-parts key keys rising here) ∙ ap (λ (call : Call). keys_after_call call key keys) (sym is),
+    )
 
 -- A known row with one key more fits into one draw.
 pub row_room : (view : PassView) (seen : Seen) → IsSound view → IsSeen view seen → FIRST_KEY + seen.count + 1 ≤ 2 ^ 28
@@ -209,7 +225,6 @@ pub refused_after_reads : (keys : List ℕ) (loads : ℕ) (old new : PassView) �
     → RefusesRow keys old new
 refused_after_reads keys loads old new refuses = record {
   only = refuses.only;
-  hands = refuses.hands;
   words = refuses.words;
   drawn = refuses.drawn;
   bound = refuses.bound;

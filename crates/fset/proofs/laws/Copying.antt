@@ -1,8 +1,9 @@
 -- Keys that are loaded and written one by one add up to a part of the row.
-use Rattle.std.proofs.Common.{◌≡◌, ℕ, ◌+◌, ◌-◌, ◌<◌, ◌≤◌, List, [], ◌∷◌, ◌++◌, length, take, drop, slice_index, slice_range, refl, sym, ap, ◌∙◌, subst, length-take, length-drop, arith}
+use Rattle.std.proofs.Common.{◌≡◌, ℕ, ◌+◌, ◌-◌, ◌<◌, ◌≤◌, List, [], ◌∷◌, ◌++◌, length, take, drop, slice_index, slice_range, sym, ap, ◌∙◌, subst, length-take, length-drop, arith}
 use Rattle.std.proofs.lemmas.List.{take_more, get_or-drop}
 use Rattle.step_core.specs.declared.views.PassView.{PassView}
 use Rattle.cells.specs.Frames.{after_reads}
+use Rattle.cells.specs.Known.{keys_at}
 use Rattle.cells.specs.Steps.{Writes}
 use Rattle.cells.proofs.laws.WritesAddUp.{writes_both}
 use Rattle.fset.proofs.laws.Reading.{after_reads-both}
@@ -16,6 +17,10 @@ writes_reads at offset loads values old new writes = record {
   words = writes.words;
   others = writes.others;
 }
+
+-- Writing leaves the keys that are known.
+pub writes_keys : (at offset row : ℕ) (values : List ℕ) (old new : PassView) → Writes at offset values old new → keys_at new row ≡ keys_at old row
+writes_keys at offset row values old new writes = ap (λ (view : PassView). keys_at view row) writes.only
 
 -- A part with the next one.
 part_more : (keys : List ℕ) (from i : ℕ) → from ≤ i → i < length keys

@@ -1,6 +1,5 @@
 -- Loading the number of a known row's keys or one of them tells nothing new, and what was read stays true while more becomes known.
-use Rattle.std.proofs.Common.{◌≡◌, ◌≢◌, ℕ, ◌+◌, ◌<◌, List, [], ◌∷◌, ◌++◌, length, inr, refl, sym, ap, ◌∙◌, subst, append_assoc, add-zero, add_assoc, Bool, cond, eq-eqb, Contains, arith}
-use base.Growing.{prefix_refl, prefix_trans}
+use Rattle.std.proofs.Common.{◌≡◌, ◌≢◌, ℕ, ◌+◌, ◌<◌, List, [], ◌∷◌, ◌++◌, length, inr, refl, sym, ap, ◌∙◌, subst, add-zero, add_assoc, Bool, cond, eq-eqb, Contains, arith}
 use Rattle.std.proofs.lemmas.List.Elements.{Contains-append_right}
 use Rattle.set_model.specs.Keys.{is_in}
 use Rattle.step_core.specs.Members.{keys_with_op}
@@ -17,7 +16,7 @@ use Rattle.cells.specs.Known.{known_block, KnowsRow, block_at, row_at, keys_at}
 use Rattle.cells.specs.Sound.{IsSound}
 use Rattle.cells.specs.Steps.{LoadsSealed}
 use Rattle.cells.proofs.laws.Known.{row_stays}
-use Rattle.cells.proofs.laws.HeadLoads.{load_sealed_known, load_sealed_grows, load_sealed_still}
+use Rattle.cells.proofs.laws.HeadLoads.{load_sealed_known, load_sealed_still}
 use Rattle.cells.proofs.laws.Sealed.{row_count, row_op}
 use Rattle.fset.specs.Content.{seen_content, seen_keys}
 use Rattle.fset.specs.Frames.{Grows, Reads}

@@ -1,10 +1,8 @@
 -- A key's bucket that was loaded, and then its row read, is sought; and a turn that loaded it goes on while it is open.
 use Rattle.std.proofs.Common.{◌≡◌, ◌≢◌, ℕ, ◌+◌, List, [], ◌∷◌, ◌++◌, All, refl, sym, ap, ◌∙◌, subst, arith}
 use Rattle.std.proofs.lemmas.List.Elements.{All-nil}
-use mathlib.Core.List.{IsPrefix}
 use Rattle.set_model.specs.History.{members_after}
 use Rattle.set_model.specs.Keys.{is_in}
-use Rattle.set_model.specs.declared.entry.Entry.{Entry}
 use Rattle.step_core.specs.Buckets.{key_bucket}
 use Rattle.step_core.specs.Format.{row_address}
 use Rattle.step_core.specs.declared.published.Published.TheVariants.{Generation, Row}

@@ -1,10 +1,8 @@
 -- How a turn ends, from the key's bucket and row being found: it is answered by reading or by its exchange, is lost, or is Full.
-use Rattle.std.proofs.Common.{◌≡◌, ◌≢◌, ℕ, ◌+◌, ◌-◌, ◌*◌, ◌^◌, ◌≤◌, ◌<◌, ◌==◌, ◌⊎◌, Bool, true, false, not, ◌&&◌, ◌||◌, nat_eq, List, [], ◌∷◌, ◌++◌, length, drop, Option, Some, None, inl, inr, ⊎_elim, refl, sym, ap, ◌∙◌, subst, add-zero, arith}
-use mathlib.Core.List.{IsPrefix}
+use Rattle.std.proofs.Common.{◌≡◌, ◌≢◌, ℕ, ◌+◌, ◌-◌, ◌^◌, ◌≤◌, ◌<◌, ◌⊎◌, Bool, true, false, not, ◌&&◌, ◌||◌, nat_eq, List, [], ◌∷◌, ◌++◌, length, drop, Option, Some, None, inl, refl, sym, ap, ◌∙◌, subst, add-zero, arith}
 use base.Growing.{prefix_refl, prefix_trans}
 use Rattle.std.proofs.lemmas.Bool.Decides.{nat_tests}
 use Rattle.std.specs.List.Sorted.{IsStrictlyIncreasing}
-use Rattle.arena.specs.Hands.{words_at}
 use Rattle.set_model.specs.Call.{answer_where, members_after_call}
 use Rattle.set_model.specs.Keys.{is_in}
 use Rattle.set_model.specs.declared.call.Call.{Call}
@@ -12,8 +10,8 @@ use Rattle.set_model.specs.declared.call.Call.TheVariants.{Insert, Remove, Conta
 use Rattle.set_model.specs.declared.entry.Entry.{Entry}
 use Rattle.step_core.specs.Buckets.{key_bucket}
 use Rattle.step_core.specs.Content.{InClass}
-use Rattle.step_core.specs.Format.{row_address, row_words}
-use Rattle.step_core.specs.Rising.{Change, ChangesKeys, change_of, keys_after_call}
+use Rattle.step_core.specs.Format.{row_address}
+use Rattle.step_core.specs.Rising.{ChangesKeys, change_of, keys_after_call}
 use Rattle.step_core.specs.declared.format.TheConstants.{FIRST_KEY}
 use Rattle.step_core.specs.declared.published.Published.TheVariants.{Row}
 use Rattle.step_core.specs.declared.published.RowBlock.{RowBlock}
@@ -28,16 +26,16 @@ use Rattle.cells.specs.Frames.{after_reads}
 use Rattle.cells.specs.Known.{known_block, row_at, keys_at, KnowsRow}
 use Rattle.cells.specs.Sound.{IsSound}
 use Rattle.cells.specs.Tokens.{BlockValue}
-use Rattle.cells.proofs.laws.AfterSwaps.{row_fits, won_front, won_mine, lost_mine}
+use Rattle.cells.proofs.laws.AfterSwaps.{row_fits, won_front, won_mine}
 use Rattle.cells.proofs.laws.Known.{knows_first}
 use Rattle.cells.proofs.laws.Swaps.{content_keys-plain}
-use Rattle.fset.specs.Answers.{Enters, HasPast, ReadsSet, entry_for}
+use Rattle.fset.specs.Answers.{Enters, entry_for}
 use Rattle.fset.specs.Content.{front_has, seen_content}
-use Rattle.fset.specs.Frames.{Grows, KeepsOwn, Spends, latest_row, row_cost, turns_cost, widest}
-use Rattle.fset.specs.Rows.{Builds, RefusesRow, IsFull}
+use Rattle.fset.specs.Frames.{Grows, KeepsOwn, row_cost, turns_cost, widest}
+use Rattle.fset.specs.Rows.{Builds, RefusesRow}
 use Rattle.fset.specs.Seen.{IsSeen}
 use Rattle.fset.specs.Seeking.{IsUnderWay, Seeks}
-use Rattle.fset.specs.Turns.{AnswersTurn, IsWidth, LosesTurn, RefusesTurn, leaves_key, most_keys}
+use Rattle.fset.specs.Turns.{AnswersTurn, LosesTurn, RefusesTurn, leaves_key, most_keys}
 use Rattle.fset.specs.declared.seeking.Sought.{Sought}
 use Rattle.fset.proofs.laws.Frames.{behind_self, draws_grow, draws_own, grows_then, own_then, reads_grow, reads_own, widest-first, widest-latest}
 use Rattle.fset.proofs.laws.Built.{row_room}

@@ -1,14 +1,14 @@
-use Rattle.std.proofs.Common.{◌≡◌, ℕ, ◌+◌, ◌-◌, List, [], ◌∷◌, slice_range, sym, ap, ◌∙◌, subst, arith}
+use Rattle.std.proofs.Common.{◌≡◌, ℕ, ◌+◌, ◌-◌, List, [], ◌∷◌, slice_range, sym, ◌∙◌, subst, arith}
 use Rattle.step_core.specs.Rising.{with_key}
 use Rattle.step_core.specs.declared.format.TheConstants.{FIRST_KEY}
-use Rattle.step_core.specs.declared.views.PassView.{PassView}
 use Rattle.step_core.proofs.lists.Places.{length-with_key}
 use Rattle.cells.specs.Frames.{after_reads}
 use Rattle.cells.specs.Known.{keys_at}
 use Rattle.cells.specs.Steps.{Writes}
 use Rattle.cells.specs.Tokens.{BlockValue}
 use Rattle.fset.specs.Rows.{Builds}
-use Rattle.fset.proofs.laws.Built.{row_refused, row_room, with_built}
+use Rattle.fset.proofs.laws.Copying.{writes_keys}
+use Rattle.fset.proofs.laws.Built.{started_keys, row_refused, row_room, with_built}
 use Rattle.fset.proofs.rows.build_with.Goals as goal
 
 -- the row with one key more fits into one draw
@@ -42,17 +42,16 @@ returns-clause-answer c =
     let count = c.args.seen.now.count in
     let copied : c.copy_keys.new.block ≡ block = c.copy_keys.ensures.block in
     let put : c.write.new.block ≡ block = c.write.ensures.block ∙ copied in
-    let started : keys_at v1 at ≡ keys =
-    ap (λ (view : PassView). keys_at view at) c.in-Ok.ensures.answer.writes.only
-    ∙ ap (λ (view : PassView). keys_at view at) c.in-Ok.ensures.answer.draws.view in
+    let started = started_keys (count + 1) at block old v1 c.in-Ok.ensures.answer in
     let known : keys_at v3 at ≡ keys =
-    ap (λ (view : PassView). keys_at view at) c.write.ensures.writes.only
-    ∙ ap (λ (view : PassView). keys_at view at) c.copy_keys.ensures.writes.only ∙ started in
+    writes_keys c.copy_keys.new.block.at (FIRST_KEY + before) at (c.args.key ∷ []) v2 v3 c.write.ensures.writes
+    ∙ writes_keys block.at FIRST_KEY at (slice_range (keys_at v1 at) 0 before) (after_reads (before - 0) v1) v2 c.copy_keys.ensures.writes
+    ∙ started in
     subst (λ (last : BlockValue). Builds (with_key c.args.key keys) last old v4) (sym (c.copy_keys-2.ensures.block ∙ put))
-    (with_built keys c.args.key before count c.requires.before c.requires.knows.count block old v1 v2 c.requires.within
+    (with_built keys before count c.requires.knows.count block old v1 v2 c.requires.within
     (subst (λ (list : List ℕ). Writes block.at FIRST_KEY (slice_range list 0 before) (after_reads (before - 0) v1) v2) started
     c.copy_keys.ensures.writes)
-    v3 v4 c.requires.absent c.in-Ok.ensures.answer
+    c.args.key v3 v4 c.requires.before c.requires.absent c.in-Ok.ensures.answer
     (subst (λ (block : BlockValue). Writes block.at (FIRST_KEY + before) (c.args.key ∷ []) v2 v3) copied c.write.ensures.writes)
     (subst (λ (z : BlockValue × List ℕ). Writes z.0.at (FIRST_KEY + before + 1) (slice_range z.1 before count)
     (after_reads (count - before) v3) v4) (λ i. (put i, known i)) c.copy_keys-2.ensures.writes))

@@ -1,11 +1,10 @@
-use Rattle.std.proofs.Common.{rules, ◌≡◌, ℕ, ◌+◌, ◌-◌, ◌≤◌, List, [], ◌∷◌, slice_index, slice_range, sym, ap, ◌∙◌, subst, arith}
-use Rattle.step_core.specs.declared.views.PassView.{PassView}
+use Rattle.std.proofs.Common.{rules, ◌≡◌, ℕ, ◌+◌, ◌-◌, ◌≤◌, List, [], ◌∷◌, slice_index, slice_range, ap, ◌∙◌, subst, arith}
 use Rattle.cells.specs.Frames.{after_reads}
 use Rattle.cells.specs.Known.{keys_at}
 use Rattle.cells.specs.Steps.{Writes}
 use Rattle.cells.specs.Tokens.{BlockValue, IsSamePass}
 use Rattle.cells.proofs.laws.Within.{hand_within}
-use Rattle.fset.proofs.laws.Copying.{copied_one}
+use Rattle.fset.proofs.laws.Copying.{copied_one, writes_keys}
 use Rattle.fset.proofs.rows.copy_keys.Goals as goal
 
 -- the block lies in the arena
@@ -22,8 +21,10 @@ loop-i-preserved c =
     let same : IsSamePass c.args.pass.now c.write.new.pass = search rules in
     let block : c.write.new.block ≡ c.args.block.now = search rules in
     let begun : c.args.from ≤ c.loop-i.i + 1 = omega (arith, c.loop-i.invariant.begun) in
-    let key : c.key_at-key.result ≡ slice_index keys c.loop-i.i = c.key_at-key.ensures.answer
-    ∙ ap (λ (view : PassView). slice_index (keys_at view c.args.row) c.loop-i.i) c.loop-i.invariant.writes.only in
+    let same_keys = writes_keys c.args.block.now.at c.args.offset c.args.row (slice_range keys c.args.from c.loop-i.i)
+    (after_reads (c.loop-i.i - c.args.from) c.args.pass.now.view) c.loop-i.pass.view c.loop-i.invariant.writes in
+    let key : c.key_at-key.result ≡ slice_index keys c.loop-i.i =
+    c.key_at-key.ensures.answer ∙ ap (λ (list : List ℕ). slice_index list c.loop-i.i) same_keys in
     record {
       same = same;
       block = block;

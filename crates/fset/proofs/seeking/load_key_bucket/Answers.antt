@@ -1,5 +1,4 @@
-use Rattle.std.proofs.Common.{◌≡◌, ℕ, ◌+◌, ◌^◌, ◌<◌, sym, ap, ◌∙◌, subst, arith}
-use Rattle.step_core.specs.Buckets.{key_bucket}
+use Rattle.std.proofs.Common.{ℕ, ◌+◌, ap, arith}
 use Rattle.step_core.specs.declared.format.TheConstants.{FIRST_BUCKET}
 use Rattle.cells.proofs.laws.HeadLoads.{load_head_knows}
 use Rattle.cells.proofs.laws.Sealed.{knows_exponent}

@@ -1,4 +1,4 @@
-use Rattle.std.proofs.Common.{ℕ, ap, ◌∙◌, sym, subst}
+use Rattle.std.proofs.Common.{ℕ, sym, subst}
 use Rattle.fset.specs.Seen.{KnowsRowAt, ReadsRow}
 use Rattle.fset.proofs.laws.Sought.{found_key, key_row_known}
 use Rattle.fset.proofs.seeking.seek.Goals as goal

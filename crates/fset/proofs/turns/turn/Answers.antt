@@ -1,9 +1,8 @@
-use Rattle.std.proofs.Common.{◌≡◌, ℕ, ◌-◌, sym, ap, ◌∙◌, subst, arith}
+use Rattle.std.proofs.Common.{ℕ, ◌-◌, sym, ◌∙◌, subst, arith}
 use Rattle.cells.specs.Exchanges.{SwapsRow}
 use Rattle.step_core.specs.declared.format.TheConstants.{FIRST_KEY}
 use Rattle.cells.specs.Known.{keys_at}
 use Rattle.fset.specs.Content.{loads_to_find}
-use Rattle.fset.proofs.laws.Built.{row_room}
 use Rattle.fset.proofs.laws.Turning.{answered_by_exchange, answered_by_reading, changed_small, full_turn, is_seen_still, lost_turn, may_exchange, row_small}
 use Rattle.fset.proofs.turns.turn.Goals as goal
 
@@ -42,7 +41,7 @@ build_at-requires-clause-knows c =
     let place = c.place_among-place in
     let loads = loads_to_find (keys_at v1 sought.row.at) c.args.key in
     is_seen_still c.args.key c.args.call v0 v1 v2 sought c.seek-sought.ensures.answer loads place.ensures.view c.sound.ensures.view
-    place.result.taken place.ensures.taken c.requires.call.0 
+    place.result.taken place.ensures.taken c.requires.call.0
 
 -- no block was to be had
 pub returns-in_default-clause-answer : goal.returns-in_default-clause-answer

@@ -20,7 +20,7 @@ use Rattle.fset.specs.declared.seeking.Sought.{Sought}
 
 -- The open turn loaded the bucket of the key, in its head, and found this word of a mutable row.
 -- That stays so until the turn is closed.
-pub record HasLoaded (view : PassView) (key place word : ℕ) : Type 0 where
+pub record HasKeyBucket (view : PassView) (key place word : ℕ) : Type 0 where
   pub turn : OpenTurn
   pub is_turn : view.turn ≡ Some turn
   pub generation : GenerationBlock
@@ -40,7 +40,7 @@ pub record LoadsKeyBucket (key : ℕ) (old : PassView) (bucket : LoadedBucket) (
       (known_block (row_address bucket.word) (Row row) ∷ known_block head (Generation generation) ∷ [])
       0 0 old new
   pub own : KeepsOwn old new
-  pub loaded : HasLoaded new key bucket.place bucket.word
+  pub loaded : HasKeyBucket new key bucket.place bucket.word
   pub home : InClass row.exponent row.bucket key
   pub agrees : row.op ≡ 0 → is_in row.keys key ≡ front_has new key
   pub spent : new.spent ≡ old.spent
@@ -58,7 +58,7 @@ pub record IsUnderWay (key words : ℕ) (old : PassView) (sought : Sought) (new 
   pub row : RowBlock
   pub grows : Grows learned words 0 old new
   pub own : KeepsOwn old new
-  pub loaded : HasLoaded new key sought.place sought.word
+  pub loaded : HasKeyBucket new key sought.place sought.word
   pub address : sought.row.at ≡ row_address sought.word
   pub seen : IsSeen new sought.row
   pub latest : latest_row learned ≡ Some row

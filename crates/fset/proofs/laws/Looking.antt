@@ -25,7 +25,7 @@ use Rattle.cells.proofs.laws.Sealed.{exponent_word}
 use Rattle.cells.proofs.laws.Within.{generation_within}
 use Rattle.fset.specs.Content.{front_has}
 use Rattle.fset.specs.Frames.{Grows, KeepsOwn}
-use Rattle.fset.specs.Seeking.{HasLoaded, LoadsKeyBucket}
+use Rattle.fset.specs.Seeking.{HasKeyBucket, LoadsKeyBucket}
 use Rattle.fset.proofs.laws.Frames.{behind_self, grows_then, own_then, reads_grow, reads_own}
 
 -- A load of the head grows the view by the head's generation.
@@ -126,7 +126,7 @@ module _ (v0 v1 v2 : PassView) (head exponent : ℕ) (heads : LoadsHead v0 head 
       own = own_then v0 v2 v3 (own_then v0 v1 v2 (head_grows v0 head v1 heads).1 (subst (KeepsOwn v1) (sym still) (reads_own 1 v1)))
           (bucket_grows place v2 word v3 loads).1
 
-      loaded : HasLoaded v3 key place word
+      loaded : HasKeyBucket v3 key place word
       loaded = record {
         turn = among.0;
         is_turn = among.1;

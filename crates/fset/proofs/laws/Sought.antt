@@ -17,7 +17,7 @@ use Rattle.cells.specs.Steps.{IsUnmarked}
 use Rattle.cells.proofs.laws.Known.{bucket_word_stays, knows_first, row_at-first}
 use Rattle.fset.specs.Content.{seen_content, front_has}
 use Rattle.fset.specs.Frames.{Grows, KeepsOwn}
-use Rattle.fset.specs.Seeking.{HasLoaded, IsUnderWay, LoadsKeyBucket, Seeks}
+use Rattle.fset.specs.Seeking.{HasKeyBucket, IsUnderWay, LoadsKeyBucket, Seeks}
 use Rattle.fset.specs.Seen.{KnowsRowAt, ReadsRow}
 use Rattle.fset.specs.declared.seeking.LoadedBucket.{LoadedBucket}
 use Rattle.fset.specs.declared.seeking.Sought.{Sought}
@@ -27,7 +27,7 @@ use Rattle.fset.proofs.laws.Reading.{seen_content-plain, seen_stays}
 
 -- What the open turn loaded it goes on to have loaded, while more becomes known.
 pub loaded_stays : (learned : List Known) (old new : PassView) (key place word : ℕ) → new.known ≡ learned ++ old.known
-    → new.turn ≡ old.turn → HasLoaded old key place word → HasLoaded new key place word
+    → new.turn ≡ old.turn → HasKeyBucket old key place word → HasKeyBucket new key place word
 loaded_stays learned old new key place word more same loaded = record {
   turn = loaded.turn;
   is_turn = same ∙ loaded.is_turn;

@@ -34,7 +34,7 @@ pub record ReadsSet (call : Call) (key : ℕ) (answer : Bool) (old new : PassVie
   pub answer_is : answer ≡ answer_where call (front_has new key)
 
 -- The answer of a tried insert or remove stands: a change is an entry, and else the set was read.
-abbrev pub AnswerStands : ℕ → Call → ℕ → Bool → PassView → PassView → Type 0
-AnswerStands serial call key true old new =
+abbrev pub TriedStands : ℕ → Call → ℕ → Bool → PassView → PassView → Type 0
+TriedStands serial call key true old new =
     Enters (entry_for old.number serial call key true) old new
-AnswerStands serial call key false old new = ReadsSet call key false old new
+TriedStands serial call key false old new = ReadsSet call key false old new

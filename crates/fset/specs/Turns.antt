@@ -13,7 +13,7 @@ use Rattle.cells.specs.Past.{inserted_keys}
 use Rattle.fset.specs.declared.outcomes.Answered.{Answered}
 use Rattle.fset.specs.declared.outcomes.Turn.{Turn}
 use Rattle.fset.specs.declared.outcomes.Turn.TheVariants.{Done, Lost, Full}
-use Rattle.fset.specs.Answers.{AnswerStands}
+use Rattle.fset.specs.Answers.{TriedStands}
 use Rattle.fset.specs.Frames.{KeepsOwn, Spends, latest_row, turns_cost}
 use Rattle.fset.specs.Rows.{IsFull}
 
@@ -43,13 +43,15 @@ pub record IsWidth (call : Call) (key width : ℕ) (learned : List Known) (new :
 pub record AnswersTurn (serial : ℕ) (call : Call) (key : ℕ) (answered : Answered)
     (old new : PassView) : Type 0 where
   pub spends : Spends (turns_cost 1) 0 old new
-  pub stands : AnswerStands serial call key answered.changed old new
+  pub stands : TriedStands serial call key answered.changed old new
+  pub spent : new.spent ≡ old.spent
   pub width : IsWidth call key answered.width spends.learned new
 
 -- its exchange was lost, to another pass
 pub record LosesTurn (old new : PassView) : Type 0 where
   pub spends : Spends (turns_cost 1) 1 old new
   pub own : KeepsOwn old new
+  pub spent : new.spent ≡ old.spent
   pub others : old.facts.seats ≢ 1
 
 -- a block that it needed wasn't to be had

@@ -163,6 +163,7 @@ module _ (key : ℕ) (call : Call) (v0 v1 v2 : PassView) (sought : Sought) (seek
       content_keys-plain v2 way.row (sym (ap (λ (row : RowBlock). row.op) way.is_row) ∙ plain) ∙ sym (ap (λ (row : RowBlock). row.keys) way.is_row) in
       record {
         spends = record { learned = way.learned; words = 0; grows = way.grows; bound = omega arith };
+        spent = ap (λ (view : PassView). view.spent) same ∙ seeks.spent;
         stands = record { own = way.own; answer_is = sym answer ∙ ap (answer_where call) (is ∙ content) };
         width = record {
           row = way.row;
@@ -273,6 +274,7 @@ module _ (key : ℕ) (call : Call) (v0 v1 v2 : PassView) (sought : Sought) (seek
           flight = ap (λ (view : PassView). view.flight) lost.view_is;
           used = ap (λ (view : PassView). view.used) lost.view_is;
         });
+        spent = ap (λ (view : PassView). view.spent) lost.view_is ∙ builds.spent ∙ ap (λ (view : PassView). view.spent) same ∙ seeks.spent;
         others = subst (λ (facts : RoundFacts). facts.seats ≢ 1) built.grows.facts lost.others;
       }
 
@@ -320,6 +322,7 @@ module _ (key : ℕ) (call : Call) (v0 v1 v2 : PassView) (sought : Sought) (seek
             bound = omega (arith, builds.bound, widest-first block.at published built.learned, ap length in_hand);
           };
           stands = entered idle;
+          spent = ap (λ (view : PassView). view.spent) won.view_is ∙ builds.spent ∙ ap (λ (view : PassView). view.spent) same ∙ seeks.spent;
           width = record {
             row = published;
             latest = refl;

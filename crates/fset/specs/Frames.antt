@@ -1,5 +1,5 @@
 -- What calls leave of a pass's view, told so that it adds up: what a call learned, drew and lost is
--- exact, and all else only grew.
+-- exact, and the front and what else is known of the round only grew.
 use Rattle.std.specs.Prelude.{◌≡◌, ℕ, ◌+◌, ◌*◌, ◌≤◌, max, List, [], ◌∷◌, ◌++◌, length, Option, Some, None}
 use mathlib.Core.List.{IsPrefix}
 use Rattle.step_core.specs.declared.format.TheConstants.{FIRST_KEY}

@@ -3,5 +3,5 @@ pub mod Seen
 pub mod Content
 pub mod Rows
 pub mod Seeking
-pub mod Answers
+pub mod Standing
 pub mod Turns

@@ -13,17 +13,17 @@ use Rattle.fset.specs.Content.{seen_keys}
 use Rattle.fset.specs.Frames.{row_cost}
 use Rattle.fset.specs.declared.seen.Seen.{Seen}
 
--- of the steps that are counted only loads of sealed words, writes, and at most one draw were made
-pub record OnlyBuilds (before after : StepCounts) : Type 0 where
+-- of the steps that are counted so many writes, loads of sealed words, and at most one draw were made
+pub record OnlyBuilds (writes : ℕ) (before after : StepCounts) : Type 0 where
   pub only : after ≡ record before {
     sealed_loads = after.sealed_loads;
     draws = after.draws;
-    writes = after.writes;
+    writes = before.writes + writes;
   }
   pub draws : after.draws ≤ before.draws + 1
 
--- A row of these keys without an operation stands in the block. For it at most its own words were
--- drawn.
+-- A row of these keys without an operation stands in the block. Each of its words was written, and
+-- at most these were drawn for it.
 pub record Builds (keys : List ℕ) (block : BlockValue) (old new : PassView) : Type 0 where
   pub only : OnlyDraws old new
   pub built : words_at new.hands block.at ≡ row_words keys
@@ -31,15 +31,27 @@ pub record Builds (keys : List ℕ) (block : BlockValue) (old new : PassView) : 
   pub words : ℕ
   pub drawn : new.drawn ≡ old.drawn + words
   pub bound : words ≤ row_cost (length keys)
+  pub unspent : old.spent ≡ None
   pub spent : new.spent ≡ old.spent
-  pub steps : OnlyBuilds old.made new.made
+  pub steps : OnlyBuilds (row_cost (length keys)) old.made new.made
 
--- the pass was spent, or a draw of these words passed the end and left it spent, with the place that
--- it found
-pub record IsFull (words : ℕ) (old new : PassView) : Type 0 where
-  pub spent : new.spent ≢ None
-  pub cause : (old.spent ≢ None)
-      ⊎ ((at : ℕ) × (new.spent ≡ Some at) × (old.facts.cap < at + words))
+-- a draw passed the end, which it wouldn't have without these words, and left the pass spent, with the
+-- place that it found
+pub record Overdrew (words : ℕ) (old new : PassView) : Type 0 where
+  pub at : ℕ
+  pub spent : new.spent ≡ Some at
+  pub behind : old.facts.opened + old.drawn ≤ at
+  pub past : old.facts.cap < at + words
+
+-- the pass was spent before, and drew nothing
+pub record WasSpent (words : ℕ) (old new : PassView) : Type 0 where
+  pub before : old.spent ≢ None
+  pub still : new.spent ≡ old.spent
+  pub none : words ≡ 0
+
+-- no block was to be had, by draws of so many words: the pass was spent, or is so now
+abbrev pub IsOutOfWords : ℕ → PassView → PassView → Type 0
+IsOutOfWords words old new = WasSpent words old new ⊎ Overdrew words old new
 
 -- No block for a row of these keys was to be had.
 pub record RefusesRow (keys : List ℕ) (old new : PassView) : Type 0 where
@@ -47,8 +59,8 @@ pub record RefusesRow (keys : List ℕ) (old new : PassView) : Type 0 where
   pub words : ℕ
   pub drawn : new.drawn ≡ old.drawn + words
   pub bound : words ≤ row_cost (length keys)
-  pub full : IsFull words old new
-  pub steps : OnlyBuilds old.made new.made
+  pub full : IsOutOfWords words old new
+  pub steps : OnlyBuilds 0 old.made new.made
 
 -- the content of a row with the call made on it, as a rising list
 abbrev pub changed_keys : Call → ℕ → PassView → Seen → List ℕ

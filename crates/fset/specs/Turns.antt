@@ -1,5 +1,6 @@
 -- How one try of an insert or a remove ends.
-use Rattle.std.specs.Prelude.{◌≡◌, ◌≢◌, ℕ, ◌+◌, ◌≤◌, Bool, true, false, List, length, Some}
+use Rattle.std.specs.Prelude.{◌≡◌, ◌≢◌, ℕ, ◌+◌, ◌≤◌, Bool, true, false, List, length, Some, None}
+use Rattle.set_model.specs.Call.{answer_where}
 use Rattle.set_model.specs.Keys.{is_in}
 use Rattle.set_model.specs.declared.call.Call.{Call}
 use Rattle.set_model.specs.declared.call.Call.TheVariants.{Insert, Remove, Contains}
@@ -13,9 +14,10 @@ use Rattle.cells.specs.Past.{inserted_keys}
 use Rattle.fset.specs.declared.outcomes.Answered.{Answered}
 use Rattle.fset.specs.declared.outcomes.Turn.{Turn}
 use Rattle.fset.specs.declared.outcomes.Turn.TheVariants.{Done, Lost, Full}
-use Rattle.fset.specs.Answers.{TriedStands}
+use Rattle.fset.specs.Standing.{TriedStands}
+use Rattle.fset.specs.Content.{front_has}
 use Rattle.fset.specs.Frames.{KeepsOwn, Spends, latest_row, turns_cost}
-use Rattle.fset.specs.Rows.{IsFull}
+use Rattle.fset.specs.Rows.{IsOutOfWords}
 
 -- whether a call leaves its key in the set
 abbrev pub leaves_key : Call → Bool
@@ -39,32 +41,41 @@ pub record IsWidth (call : Call) (key width : ℕ) (learned : List Known) (new :
   pub after : is_in (content_keys new row) key ≡ leaves_key call
   pub bound : width ≤ most_keys new
 
--- it was answered
+-- it was answered; where the set was read alone, nothing was drawn
 pub record AnswersTurn (serial : ℕ) (call : Call) (key : ℕ) (answered : Answered)
     (old new : PassView) : Type 0 where
   pub spends : Spends (turns_cost 1) 0 old new
   pub stands : TriedStands serial call key answered.changed old new
-  pub spent : new.spent ≡ old.spent
   pub width : IsWidth call key answered.width spends.learned new
+  pub spent : new.spent ≡ old.spent
+  pub reads : answered.changed ≡ false → spends.words ≡ 0
+
+-- the call would change the set after the pass's front
+abbrev pub WouldChange : Call → ℕ → PassView → Type 0
+WouldChange call key view = answer_where call (front_has view key) ≡ true
 
 -- its exchange was lost, to another pass
-pub record LosesTurn (old new : PassView) : Type 0 where
+pub record LosesTurn (call : Call) (key : ℕ) (old new : PassView) : Type 0 where
   pub spends : Spends (turns_cost 1) 1 old new
   pub own : KeepsOwn old new
+  pub wanted : WouldChange call key new
+  pub exchanged : new.made.row_swaps ≡ old.made.row_swaps + 1
+  pub unspent : old.spent ≡ None
   pub spent : new.spent ≡ old.spent
   pub others : old.facts.seats ≢ 1
 
 -- a block that it needed wasn't to be had
-pub record RefusesTurn (old new : PassView) : Type 0 where
+pub record RefusesTurn (call : Call) (key : ℕ) (old new : PassView) : Type 0 where
   pub spends : Spends (turns_cost 1) 0 old new
   pub own : KeepsOwn old new
-  pub full : IsFull spends.words old new
+  pub wanted : WouldChange call key new
+  pub full : IsOutOfWords spends.words old new
 
 -- how a turn ended
 abbrev pub EndsTurn : ℕ → Call → ℕ → Turn → PassView → PassView → Type 0
 EndsTurn serial call key (Done answered) old new = AnswersTurn serial call key answered old new
-EndsTurn serial call key Lost old new = LosesTurn old new
-EndsTurn serial call key Full old new = RefusesTurn old new
+EndsTurn serial call key Lost old new = LosesTurn call key old new
+EndsTurn serial call key Full old new = RefusesTurn call key old new
 
 -- the steps of one turn: one load of the head, one of a bucket, at most one draw and one exchange
 pub record AreOneTurn (before after : StepCounts) : Type 0 where

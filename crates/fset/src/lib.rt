@@ -1,14 +1,17 @@
-//! The rows of a round, as a pass reads them.
+//! The rows of a round: how a pass reads them, finds a key in them, builds them, and tries to replace
+//! one.
 //!
 //! A *row* has the keys of one bucket, rising, and may name an *operation*, an insert or a remove
 //! that its pass announced. `Seen` is a row as a pass read it. Its *content* is the keys, with the
 //! operation applied where that is decided: `seen_content` of `specs/Content.antt`. So far only rows
-//! without an operation are looked into.
+//! without an operation are looked into. A *turn* is one try of an insert or a remove.
 //!
-//! The promise: `find` answers whether the content has a key, whatever other passes do meanwhile,
-//! since a published row never changes. A row is read only where the pass knows it (`KnowsRowAt` of
-//! `specs/Seen.antt`). What `read_row` leaves of the pass's view is `Reads` of `specs/Frames.antt`,
-//! and readings add up; `find` leaves it as it was but for the loads counted. The smallest use is the test `each_of_five_keys_is_found_in_one_row`.
+//! The promise is that of `turn`: a call that it answers with a change has exactly one entry, past all
+//! that its pass had seen; one without a change has none, and the answer of the set after what the
+//! pass has then seen (`EndsTurn` of `specs/Turns.antt`). `seek` finds the row of a key, and `find`
+//! answers whether the content has it, whatever other passes do meanwhile, since a published row
+//! never changes. What a call learned, drew and lost is exact, and adds up (`specs/Frames.antt`). The
+//! smallest use is the test `a_turn_changes_the_set_once`.
 #![tactic(auto)]
 
 mod content;

@@ -6,8 +6,7 @@ pub struct Answered {
     /// Whether the call changed the set: an insert, where the key was absent, or a remove, where it
     /// was present.
     pub changed: bool,
-    /// The number of keys, after the call, of the row that the pass published or read for it; 0
-    /// where other passes carried the call out.
+    /// The number of keys, after the call, of the row that the pass published or read for it.
     pub width: u32,
 }
 
@@ -28,7 +27,7 @@ pub enum Outcome {
 pub enum Turn {
     /// It was answered.
     Done(Answered),
-    /// Another pass changed the bucket meanwhile. The call has no entry, and may be tried again.
+    /// Another pass exchanged the bucket's row meanwhile. The call has no entry, and may be tried again.
     Lost,
     /// A draw of the pass passed the end of the arena, now or before. The call has no entry.
     Full,

@@ -20,8 +20,9 @@ use cells::{Block, Full, Pass, Round};
 use set_model::Call;
 use step_core::FIRST_KEY;
 
-/// Builds a row of the content with the key put in or taken out, in a block that is drawn for it. The
-/// call must change the content. It is Full only where the pass was spent, or is spent by this draw.
+/// Builds a row of the content with the key put in or taken out, word by word, in a block in hand. The
+/// call must change the content. It is Full only where the pass was spent, or is spent by a draw of the
+/// row's words.
 pub fn build_changed(
     round: &Round,
     pass: &mut Pass,

@@ -19,8 +19,8 @@ pub struct Sought {
 }
 
 /// Finds the bucket of the key in the head and reads its row, by one load of the head and one of the
-/// bucket. The pass then has seen the history as far as it had come, and has a turn open; of the key
-/// the row says what the set after that history says.
+/// bucket. The pass then has a turn open; of the key the row says what the set after the pass's new
+/// front says, which begins with its old one.
 pub fn seek(round: &Round, pass: &mut Pass, key: u64) -> Sought
     requires pass { IsPassOf round.now pass.old }
     ensures pass { IsSamePass pass.old pass.new }

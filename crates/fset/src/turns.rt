@@ -16,7 +16,9 @@ use step_core::FIRST_KEY;
 ///
 /// Where the call wouldn't change the set that the pass has seen when it loads the key's bucket, it
 /// is answered so. Else it takes effect by one exchange of the bucket, and has an entry in the
-/// history then. The exchange is lost only to another pass. In all cases no turn is open then.
+/// history then. It is Lost only where that exchange was lost, to another pass, and Full only where
+/// the pass was spent, or a draw for its row passed the end; the call then has no entry. After an
+/// exchange no turn is open, and else the turn stays open.
 ///
 /// After Liu, Zhang and Spear, Dynamic-sized nonblocking hash tables (PODC 2014).
 pub fn turn(round: &Round, pass: &mut Pass, call: Call, key: u64) -> Turn

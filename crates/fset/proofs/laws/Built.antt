@@ -1,5 +1,5 @@
 -- A block that was drawn and written whole has the row, and a refused draw leaves no row.
-use Rattle.std.proofs.Common.{◌≡◌, ◌≢◌, ℕ, suc, ◌+◌, ◌-◌, ◌^◌, ◌<◌, ◌≤◌, false, List, [], ◌∷◌, ◌++◌, length, take, drop, slice_range, Option, Some, None, inl, inr, refl, sym, ap, ◌∙◌, subst, append_assoc, take_all, length-append, length-drop, arith}
+use Rattle.std.proofs.Common.{◌≡◌, ◌≢◌, ℕ, suc, ◌+◌, ◌-◌, ◌^◌, ◌<◌, ◌≤◌, false, List, [], ◌∷◌, ◌++◌, length, take, drop, slice_range, Option, Some, None, inl, inr, ⊎_elim, add-zero, refl, sym, ap, ◌∙◌, subst, append_assoc, take_all, length-append, length-drop, arith}
 use Rattle.std.proofs.lemmas.List.{length-take-le}
 use Rattle.std.proofs.lemmas.List.Edits.{length-remove}
 use Rattle.std.specs.List.{insert, remove}
@@ -22,7 +22,7 @@ use Rattle.cells.proofs.laws.AfterDraws.{draws_keep, full_keeps, overdraws_keep,
 use Rattle.cells.proofs.laws.Within.{row_within}
 use Rattle.cells.proofs.laws.WritesAddUp.{length-drawn, writes_both, writes_whole}
 use Rattle.fset.specs.Frames.{row_cost}
-use Rattle.fset.specs.Rows.{Builds, OnlyBuilds, RefusesRow, StartsRow}
+use Rattle.fset.specs.Rows.{Builds, OnlyBuilds, Overdrew, RefusesRow, StartsRow, WasSpent}
 use Rattle.fset.specs.Seen.{IsSeen}
 use Rattle.fset.specs.declared.seen.Seen.{Seen}
 use Rattle.fset.proofs.laws.Copying.{writes_keys, writes_reads}
@@ -43,9 +43,16 @@ draws_then old between new one two = two
     }) one
 
 -- where only these counts of steps are others, only these steps were made
-only_builds : (sealed drawn written : ℕ) (before after : StepCounts)
-    → after ≡ record before { sealed_loads = sealed; draws = drawn; writes = written } → drawn ≤ before.draws + 1 → OnlyBuilds before after
-only_builds sealed drawn written before after only few = subst (OnlyBuilds before) (sym only) (record { only = refl; draws = few })
+only_builds : (sealed drawn writes : ℕ) (before after : StepCounts)
+    → after ≡ record before { sealed_loads = sealed; draws = drawn; writes = before.writes + writes } → drawn ≤ before.draws + 1
+    → OnlyBuilds writes before after
+only_builds sealed drawn writes before after only few = subst (OnlyBuilds writes before) (sym only) (record { only = refl; draws = few })
+
+-- no step but so many draws
+only_draws : (drawn : ℕ) (before after : StepCounts) → after ≡ record before { draws = drawn } → drawn ≤ before.draws + 1
+    → OnlyBuilds 0 before after
+only_draws drawn before after only few = only_builds before.sealed_loads drawn 0 before after
+    (only ∙ (λ i. record before { draws = drawn; writes = sym (add-zero before.writes) i })) few
 
 -- Where the words before the keys stand in a block drawn for them, and the keys were written behind, the row stands in it.
 pub row_built : (keys : List ℕ) (block : BlockValue) (loads : ℕ) (old started new : PassView) → StartsRow (length keys) block old started
@@ -66,13 +73,19 @@ row_built keys block loads old started new starts rest =
       words = row_cost (length keys);
       drawn = written.1 ∙ drawn.1;
       bound = omega arith;
+      unspent = starts.draws.unspent;
       spent = written.2 ∙ drawn.2;
-      steps = only_builds (old.made.sealed_loads + loads) (old.made.draws + 1) (old.made.writes + length (row_words keys)) old.made new.made
+      steps = only_builds (old.made.sealed_loads + loads) (old.made.draws + 1) (row_cost (length keys)) old.made new.made
           (ap (λ (view : PassView). view.made) whole.only
           ∙ ap (λ (view : PassView). record view.made {
             sealed_loads = view.made.sealed_loads + loads;
             writes = view.made.writes + length (row_words keys);
-          }) starts.draws.view)
+          }) starts.draws.view
+          ∙ (λ i. record old.made {
+            sealed_loads = old.made.sealed_loads + loads;
+            draws = old.made.draws + 1;
+            writes = old.made.writes + (let long : length (row_words keys) ≡ row_cost (length keys) = omega arith in long) i;
+          }))
           (omega arith);
     }
 
@@ -94,12 +107,8 @@ refused None keys old new was full =
       words = row_cost (length keys);
       drawn = keeps.2;
       bound = omega arith;
-      full = record {
-        spent = (full_keeps old (row_cost (length keys)) new full).spent;
-        cause = inr (over.0, keeps.3, over.1.past);
-      };
-      steps = only_builds old.made.sealed_loads (old.made.draws + 1) old.made.writes old.made new.made
-          (ap (λ (view : PassView). view.made) over.1.view) (omega arith);
+      full = inr (record { at = over.0; spent = keeps.3; behind = over.1.found.behind; past = over.1.past });
+      steps = only_draws (old.made.draws + 1) old.made new.made (ap (λ (view : PassView). view.made) over.1.view) (omega arith);
     }
 refused (Some place) keys old new was full =
     let some : old.spent ≢ None = λ (none : old.spent ≡ None). (let clash : Some place ≡ None = sym was ∙ none in cc) in
@@ -110,9 +119,8 @@ refused (Some place) keys old new was full =
       words = 0;
       drawn = omega (arith, ap (λ (view : PassView). view.drawn) same);
       bound = omega arith;
-      full = record { spent = keeps.spent; cause = inl some };
-      steps = only_builds old.made.sealed_loads old.made.draws old.made.writes old.made new.made
-          (ap (λ (view : PassView). view.made) same) (omega arith);
+      full = inl (record { before = some; still = ap (λ (view : PassView). view.spent) same; none = refl });
+      steps = only_draws old.made.draws old.made new.made (ap (λ (view : PassView). view.made) same) (omega arith);
     }
 
 -- A refused draw of a row's words leaves the pass spent, and no row.
@@ -217,6 +225,7 @@ built_after_reads keys block loads old new builds = record {
   words = builds.words;
   drawn = builds.drawn;
   bound = builds.bound;
+  unspent = builds.unspent;
   spent = builds.spent;
   steps = record { only = builds.steps.only; draws = builds.steps.draws };
 }
@@ -228,6 +237,10 @@ refused_after_reads keys loads old new refuses = record {
   words = refuses.words;
   drawn = refuses.drawn;
   bound = refuses.bound;
-  full = record { spent = refuses.full.spent; cause = refuses.full.cause };
+  full = ⊎_elim
+      (λ (was : WasSpent refuses.words (after_reads loads old) new). inl (record { before = was.before; still = was.still; none = was.none }))
+      (λ (over : Overdrew refuses.words (after_reads loads old) new).
+      inr (record { at = over.at; spent = over.spent; behind = over.behind; past = over.past }))
+      refuses.full;
   steps = record { only = refuses.steps.only; draws = refuses.steps.draws };
 }

@@ -19,10 +19,10 @@ use Rattle.cells.proofs.laws.Known.{row_stays}
 use Rattle.cells.proofs.laws.HeadLoads.{load_sealed_known, load_sealed_still}
 use Rattle.cells.proofs.laws.Sealed.{row_count, row_op}
 use Rattle.fset.specs.Content.{seen_content, seen_keys}
-use Rattle.fset.specs.Frames.{Grows, Reads}
+use Rattle.fset.specs.Frames.{Grows}
 use Rattle.fset.specs.Seen.{KnowsRowAt, HasResult, IsSeen, ReadsRow, fixed_result}
 use Rattle.fset.specs.declared.seen.Seen.{Seen}
-use Rattle.fset.proofs.laws.Frames.{behind_self, grows_then, reads_grow}
+use Rattle.fset.proofs.laws.Frames.{behind_self}
 
 -- So many loads of sealed words more.
 abbrev more_loads : ℕ → StepCounts → StepCounts
@@ -41,28 +41,6 @@ after_reads-none view = λ i. record view { made = more_loads-none view.made i }
 
 pub after_reads-both : (first second : ℕ) (view : PassView) → after_reads second (after_reads first view) ≡ after_reads (first + second) view
 after_reads-both first second view = λ i. record view { made = more_loads-both first second view.made i }
-
--- Reading nothing is a reading.
-pub reads_self : (view : PassView) → Reads [] 0 view view
-reads_self view = record { only = refl; grows = subst (Grows [] 0 0 view) (after_reads-none view) (reads_grow 0 view); made = sym (more_loads-none view.made) }
-
--- What was read first and then is what both readings read.
-pub reads_both : (first second : List Known) (loads more : ℕ) (old between new : PassView) → Reads first loads old between
-    → Reads second more between new → Reads (second ++ first) (loads + more) old new
-reads_both first second loads more old between new one two = record {
-  only = two.only ∙ ap (λ (view : PassView). record view {
-    front = new.front;
-    known = new.known;
-    marks = new.marks;
-    heads = new.heads;
-    nils = new.nils;
-    trials = new.trials;
-    fixed = new.fixed;
-    made = new.made;
-  }) one.only;
-  grows = grows_then first second 0 0 0 0 old between new one.grows two.grows;
-  made = two.made ∙ ap (more_loads more) one.made ∙ more_loads-both loads more old.made;
-}
 
 -- A row's words, read, are those of the row that the pass knows.
 is_seen : (view : PassView) (seen : Seen) (row : RowBlock) → KnowsRow view seen.at row → row_at view.known seen.at ≡ row

@@ -1,9 +1,10 @@
 -- How a turn ends, from the key's bucket and row being found: it is answered by reading or by its exchange, is lost, or is Full.
-use Rattle.std.proofs.Common.{◌≡◌, ◌≢◌, ℕ, ◌+◌, ◌-◌, ◌^◌, ◌≤◌, ◌<◌, ◌⊎◌, Bool, true, false, not, ◌&&◌, ◌||◌, nat_eq, List, [], ◌∷◌, ◌++◌, length, drop, Option, Some, None, inl, refl, sym, ap, ◌∙◌, subst, add-zero, arith}
+use Rattle.std.proofs.Common.{◌≡◌, ◌≢◌, ℕ, ◌+◌, ◌-◌, ◌^◌, ◌≤◌, ◌<◌, Bool, true, false, not, ◌&&◌, ◌||◌, nat_eq, List, [], ◌∷◌, ◌++◌, length, drop, Option, Some, None, inl, inr, ⊎_elim, refl, sym, ap, ◌∙◌, subst, add-zero, arith}
 use base.Growing.{prefix_refl, prefix_trans}
 use Rattle.std.proofs.lemmas.Bool.Decides.{nat_tests}
 use Rattle.std.specs.List.Sorted.{IsStrictlyIncreasing}
 use Rattle.set_model.specs.Call.{answer_where, members_after_call}
+use Rattle.set_model.specs.History.{members_after}
 use Rattle.set_model.specs.Keys.{is_in}
 use Rattle.set_model.specs.declared.call.Call.{Call}
 use Rattle.set_model.specs.declared.call.Call.TheVariants.{Insert, Remove, Contains}
@@ -18,6 +19,7 @@ use Rattle.step_core.specs.declared.published.RowBlock.{RowBlock}
 use Rattle.step_core.specs.declared.views.Known.{Known}
 use Rattle.step_core.specs.declared.views.PassView.{PassView}
 use Rattle.step_core.specs.declared.views.RoundFacts.{RoundFacts}
+use Rattle.step_core.specs.declared.views.StepCounts.{StepCounts}
 use Rattle.step_core.proofs.lists.Calls.{IsStrictlyIncreasing-after_call, is_in-after_call}
 use Rattle.step_core.proofs.lists.Change.{change_of-after_call}
 use Rattle.step_core.proofs.lists.Places.{length-with_key, length-without_key}
@@ -29,13 +31,13 @@ use Rattle.cells.specs.Tokens.{BlockValue}
 use Rattle.cells.proofs.laws.AfterSwaps.{row_fits, won_front, won_mine}
 use Rattle.cells.proofs.laws.Known.{knows_first}
 use Rattle.cells.proofs.laws.Swaps.{content_keys-plain}
-use Rattle.fset.specs.Answers.{Enters, entry_for}
+use Rattle.fset.specs.Standing.{Enters, entry_for}
 use Rattle.fset.specs.Content.{front_has, seen_content}
 use Rattle.fset.specs.Frames.{Grows, KeepsOwn, row_cost, turns_cost, widest}
-use Rattle.fset.specs.Rows.{Builds, RefusesRow}
+use Rattle.fset.specs.Rows.{Builds, Overdrew, RefusesRow, WasSpent}
 use Rattle.fset.specs.Seen.{IsSeen}
 use Rattle.fset.specs.Seeking.{IsUnderWay, Seeks}
-use Rattle.fset.specs.Turns.{AnswersTurn, LosesTurn, RefusesTurn, leaves_key, most_keys}
+use Rattle.fset.specs.Turns.{AnswersTurn, LosesTurn, RefusesTurn, WouldChange, leaves_key, most_keys}
 use Rattle.fset.specs.declared.seeking.Sought.{Sought}
 use Rattle.fset.proofs.laws.Frames.{behind_self, draws_grow, draws_own, grows_then, own_then, reads_grow, reads_own, widest-first, widest-latest}
 use Rattle.fset.proofs.laws.Built.{row_room}
@@ -52,7 +54,7 @@ not_false true is = refl
 not_false false is = absurd (cc)
 
 -- An insert or a remove that has an answer of true changes the keys.
-changes_keys : (call : Call) (key : ℕ) (keys : List ℕ) (taken : Bool) → call ≢ Contains → taken ≡ is_in keys key
+pub changes_keys : (call : Call) (key : ℕ) (keys : List ℕ) (taken : Bool) → call ≢ Contains → taken ≡ is_in keys key
     → answer_where call taken ≡ true → ChangesKeys call key keys
 changes_keys Insert key keys taken writes is answer = sym is ∙ not_true taken answer
 changes_keys Remove key keys taken writes is answer = sym is ∙ answer
@@ -152,18 +154,26 @@ module _ (key : ℕ) (call : Call) (v0 v1 v2 : PassView) (sought : Sought) (seek
   read_fits : length keys ≤ widest way.learned
   read_fits = subst (λ (row : RowBlock). length row.keys ≤ widest way.learned) (sym way.is_row) (widest-latest way.learned way.row way.latest)
 
+  -- the row agrees with the set after the front
+  content : is_in keys key ≡ front_has v2 key
+  content =
+      sym (seen_content-plain v2 sought.row key (way.seen.op ∙ plain))
+      ∙ subst (λ (view : PassView). seen_content view sought.row key ≡ front_has view key) (sym same) seeks.agrees
+
+  -- the pass is spent as before
+  spent_same : v2.spent ≡ v0.spent
+  spent_same = ap (λ (view : PassView). view.spent) same ∙ seeks.spent
+
   -- A turn is answered by reading where the call wouldn't change the content.
   pub answered_by_reading : (serial : ℕ) → answer_where call taken ≡ false
       → AnswersTurn serial call key (record { changed = false; width = sought.row.count }) v0 v2
   answered_by_reading serial answer =
-      let content : is_in keys key ≡ front_has v2 key =
-      sym (seen_content-plain v2 sought.row key (way.seen.op ∙ plain))
-      ∙ subst (λ (view : PassView). seen_content view sought.row key ≡ front_has view key) (sym same) seeks.agrees in
       let is_keys : content_keys v2 way.row ≡ keys =
       content_keys-plain v2 way.row (sym (ap (λ (row : RowBlock). row.op) way.is_row) ∙ plain) ∙ sym (ap (λ (row : RowBlock). row.keys) way.is_row) in
       record {
         spends = record { learned = way.learned; words = 0; grows = way.grows; bound = omega arith };
-        spent = ap (λ (view : PassView). view.spent) same ∙ seeks.spent;
+        reads = λ unchanged. refl;
+        spent = spent_same;
         stands = record { own = way.own; answer_is = sym answer ∙ ap (answer_where call) (is ∙ content) };
         width = record {
           row = way.row;
@@ -183,13 +193,18 @@ module _ (key : ℕ) (call : Call) (v0 v1 v2 : PassView) (sought : Sought) (seek
     abbrev changed : List ℕ
     changed = keys_after_call call key keys
 
+    -- while the front stays, the call would change the set after it
+    still_wanted : (view : PassView) → view.facts ≡ v2.facts → view.front ≡ v2.front → WouldChange call key view
+    still_wanted view facts front =
+        ap (answer_where call) ((λ i. members_after (is_in (facts i).keys) (front i) key) ∙ sym content ∙ sym is) ∙ answer
+
     -- what its row costs
     cost_fits : (learned : List Known) (words : ℕ) → length keys ≤ widest learned → words ≤ row_cost (length changed)
         → words ≤ turns_cost 1 (widest learned)
     cost_fits learned words fits bound = omega (arith, bound, fits, at_most_one_more call key keys rising changes)
 
     -- It is Full where the row was refused a block.
-    pub full_turn : (v3 : PassView) → RefusesRow changed v2 v3 → RefusesTurn v0 v3
+    pub full_turn : (v3 : PassView) → RefusesRow changed v2 v3 → RefusesTurn call key v0 v3
     full_turn v3 refuses = record {
       spends = record {
         learned = way.learned;
@@ -199,11 +214,21 @@ module _ (key : ℕ) (call : Call) (v0 v1 v2 : PassView) (sought : Sought) (seek
         bound = cost_fits way.learned refuses.words read_fits refuses.bound;
       };
       own = own_then v0 v2 v3 way.own (draws_own v2 v3 refuses.only);
-      full = record {
-        spent = refuses.full.spent;
-        cause = subst (λ (z : Option ℕ × ℕ). (z.0 ≢ None) ⊎ ((at : ℕ) × (v3.spent ≡ Some at) × (z.1 < at + refuses.words)))
-            (λ i. ((ap (λ (view : PassView). view.spent) same ∙ seeks.spent) i, (ap (λ (facts : RoundFacts). facts.cap) way.grows.facts) i)) refuses.full.cause;
-      };
+      wanted = still_wanted v3 (ap (λ (view : PassView). view.facts) refuses.only) (ap (λ (view : PassView). view.front) refuses.only);
+      full = ⊎_elim
+          (λ (was : WasSpent refuses.words v2 v3). inl (record {
+            before = subst (λ (spent : Option ℕ). spent ≢ None) spent_same was.before;
+            still = was.still ∙ spent_same;
+            none = was.none;
+          }))
+          (λ (over : Overdrew refuses.words v2 v3). inr (record {
+            at = over.at;
+            spent = over.spent;
+            behind = subst (λ (z : RoundFacts × ℕ). z.0.opened + z.1 ≤ over.at)
+                (λ i. (way.grows.facts i, (way.grows.drawn ∙ add-zero v0.drawn) i)) over.behind;
+            past = subst (λ (facts : RoundFacts). facts.cap < over.at + refuses.words) way.grows.facts over.past;
+          }))
+          refuses.full;
     }
 
     module _ (block : BlockValue) (v3 : PassView) (builds : Builds changed block v2 v3) (sound3 : IsSound v3) where
@@ -260,7 +285,7 @@ module _ (key : ℕ) (call : Call) (v0 v1 v2 : PassView) (sought : Sought) (seek
       }
 
       -- It is lost with that.
-      pub lost_turn : (v4 : PassView) → LosesSwap v3 v4 → LosesTurn v0 v4
+      pub lost_turn : (v4 : PassView) → LosesSwap v3 v4 → LosesTurn call key v0 v4
       lost_turn v4 lost = record {
         spends = record {
           learned = built.learned;
@@ -274,7 +299,14 @@ module _ (key : ℕ) (call : Call) (v0 v1 v2 : PassView) (sought : Sought) (seek
           flight = ap (λ (view : PassView). view.flight) lost.view_is;
           used = ap (λ (view : PassView). view.used) lost.view_is;
         });
-        spent = ap (λ (view : PassView). view.spent) lost.view_is ∙ builds.spent ∙ ap (λ (view : PassView). view.spent) same ∙ seeks.spent;
+        spent = ap (λ (view : PassView). view.spent) lost.view_is ∙ builds.spent ∙ spent_same;
+        wanted = still_wanted v4
+            (ap (λ (view : PassView). view.facts) lost.view_is ∙ ap (λ (view : PassView). view.facts) builds.only)
+            (ap (λ (view : PassView). view.front) lost.view_is ∙ ap (λ (view : PassView). view.front) builds.only);
+        exchanged = ap (λ (view : PassView). view.made.row_swaps) lost.view_is
+            ∙ ap (λ (count : ℕ). count + 1) (ap (λ (made : StepCounts). made.row_swaps) builds.steps.only
+            ∙ ap (λ (view : PassView). view.made.row_swaps) same ∙ ap (λ (made : StepCounts). made.row_swaps) seeks.made);
+        unspent = sym spent_same ∙ builds.unspent;
         others = subst (λ (facts : RoundFacts). facts.seats ≢ 1) built.grows.facts lost.others;
       }
 
@@ -322,7 +354,8 @@ module _ (key : ℕ) (call : Call) (v0 v1 v2 : PassView) (sought : Sought) (seek
             bound = omega (arith, builds.bound, widest-first block.at published built.learned, ap length in_hand);
           };
           stands = entered idle;
-          spent = ap (λ (view : PassView). view.spent) won.view_is ∙ builds.spent ∙ ap (λ (view : PassView). view.spent) same ∙ seeks.spent;
+          reads = λ unchanged. absurd (cc);
+          spent = ap (λ (view : PassView). view.spent) won.view_is ∙ builds.spent ∙ spent_same;
           width = record {
             row = published;
             latest = refl;

@@ -2,6 +2,7 @@
 ghost use Rattle.std.specs.Prelude.{◌≡◌, ◌≢◌, ◌+◌, ◌<◌, ◌≤◌, None, IfOk, IfSome};
 ghost use Rattle.cells.specs.Exchanges.{MaySwapRow};
 ghost use Rattle.cells.specs.Tokens.{HasNewCall, IsPassOf, IsSamePass, fresh_pass};
+ghost use Rattle.fset.specs.Seen.{IsSeen};
 ghost use Rattle.set_model.specs.declared.call.Call.TheVariants.{Contains};
 
 use super::{begin, begin_round};
@@ -57,6 +58,28 @@ fn has_only(round: &Round, pass: &mut Pass, keys: &[u64]) -> bool
         }
     }
     true
+}
+
+// The number of words of a row that is built so, where the call changes the content and there is room.
+fn built(round: &Round, pass: &mut Pass, seen: &Seen, call: Call, key: u64) -> Option<u64>
+    requires pass { IsPassOf round.now pass.old }
+    requires knows { IsSeen pass.old.view seen.now }
+    requires call { call ≢ Contains }
+    ensures pass { IsSamePass pass.old pass.new }
+    ensures knows { IsSeen pass.new.view seen.now }
+{
+    round.sound(pass);
+    let found = find(round, pass, seen, key);
+    round.sound(pass);
+    if !call.answer(found) {
+        return None;
+    }
+    let block = build_changed(round, pass, seen, call, key);
+    round.sound(pass);
+    match block {
+        Ok(block) => Some(block.len()),
+        Err(_) => None,
+    }
 }
 
 // A call that changed the set, and one that didn't, with the width that each has.
@@ -116,6 +139,42 @@ fn keys_at_either_end_of_a_row_of_five_come_and_go(rt: HostRuntime) -> Result<()
     assert!(rt; has_only(&round, &mut pass, &[4, 5, 6, 8]));
     assert_eq!(rt; tried(&round, &mut pass, false, 6), changed(3));
     assert!(rt; has_only(&round, &mut pass, &[4, 5, 8]));
+    Ok(())
+}
+
+// The opening has two buckets: 2 and 3 are of the first, 1, 4 and 5 of the second. A turn that takes the
+// other bucket, or leaves a key of its own behind, would fail here too.
+#[test]
+fn turns_in_two_buckets_leave_each_other_alone(rt: HostRuntime) -> Result<(), Fail> {
+    let (round, mut pass) = begin(rt.alloc(), &[1, 2, 3, 4, 5], 100)?;
+    assert_eq!(rt; tried(&round, &mut pass, true, 0), changed(3));
+    assert!(rt; has_only(&round, &mut pass, &[0, 1, 2, 3, 4, 5]));
+    assert_eq!(rt; tried(&round, &mut pass, false, 4), changed(2));
+    assert_eq!(rt; tried(&round, &mut pass, false, 3), changed(2));
+    assert_eq!(rt; tried(&round, &mut pass, true, 4), changed(3));
+    assert!(rt; has_only(&round, &mut pass, &[0, 1, 2, 4, 5]));
+    Ok(())
+}
+
+// A builder's block is as long as its row, and is had where there is room for it. The row of 2 and 3
+// lies in the first bucket.
+#[test]
+fn a_builder_gives_a_block_of_its_rows_length(rt: HostRuntime) -> Result<(), Fail> {
+    let (round, mut pass) = begin(rt.alloc(), &[1, 2, 3, 4, 5], 10)?;
+    let sought = seek(&round, &mut pass, 3);
+    assert_eq!(rt;
+        built(&round, &mut pass, &sought.row, Call::Remove, 3),
+        Some(4)
+    );
+    assert_eq!(rt;
+        built(&round, &mut pass, &sought.row, Call::Insert, 0),
+        Some(6)
+    );
+    assert_eq!(rt;
+        built(&round, &mut pass, &sought.row, Call::Remove, 3),
+        None
+    );
+    assert_eq!(rt; pass.spent(), Some(29));
     Ok(())
 }
 

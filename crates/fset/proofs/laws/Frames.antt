@@ -1,8 +1,10 @@
 -- What calls leave of a pass's view adds up: what the first learned, drew and lost, and then the second.
-use Rattle.std.proofs.Common.{◌≡◌, ℕ, ◌+◌, ◌≤◌, List, [], ◌∷◌, ◌++◌, length, Option, Some, refl, sym, ap, ◌∙◌, subst, append_assoc, add-zero, arith}
+use Rattle.std.proofs.Common.{◌≡◌, ℕ, ◌+◌, ◌*◌, ◌≤◌, List, [], ◌∷◌, ◌++◌, length, Option, Some, refl, sym, ap, ◌∙◌, subst, append_assoc, add-zero, arith}
 use mathlib.Core.List.{IsPrefix}
 use base.Growing.{prefix_refl, prefix_trans}
-use Rattle.std.proofs.Math.Nat.{le-max_left, le-max_right}
+use Rattle.std.proofs.Math.Nat.{le-max_left, le-max_right, max-le}
+use Rattle.std.proofs.lemmas.Nat.{mul-le}
+use Rattle.set_model.specs.declared.entry.Entry.{Entry}
 use Rattle.step_core.specs.declared.published.Published.{Published}
 use Rattle.step_core.specs.declared.published.Published.TheVariants.{Generation, Row, Op}
 use Rattle.step_core.specs.declared.published.RowBlock.{RowBlock}
@@ -10,7 +12,8 @@ use Rattle.step_core.specs.declared.views.Known.{Known}
 use Rattle.step_core.specs.declared.views.PassView.{PassView}
 use Rattle.cells.specs.Frames.{OnlyDraws, after_reads}
 use Rattle.cells.specs.Known.{known_block}
-use Rattle.fset.specs.Frames.{IsBehind, Grows, KeepsOwn, latest_row, row_or, width_of, widest}
+use Rattle.fset.specs.Frames.{IsBehind, Grows, KeepsOwn, Spends, latest_row, row_or, turns_cost, width_of, widest}
+use Rattle.fset.specs.Standing.{HasPast}
 
 -- A list is behind itself, and behind what is behind one that it is behind.
 pub behind_self : {A : Type 0} (list : List A) → IsBehind list list
@@ -101,3 +104,58 @@ widest-latest [] row latest = absurd (cc)
 widest-latest (known ∷ others) row latest =
     latest_fits known.block (latest_row others) (widest (known ∷ others)) row latest (le-max_left (width_of known.block) (widest others))
     (λ behind. let fits = widest-latest others row behind in let more = widest-more known others in omega (arith, fits, more))
+
+-- the row that was learned last where others were learned before, by the kind of the first block
+by_block : (block : Published) (behind all : Option RowBlock) (row : RowBlock) → row_or block behind ≡ Some row
+    → (behind ≡ Some row → all ≡ Some row) → row_or block all ≡ Some row
+by_block (Generation generation) behind all row latest more = more latest
+by_block (Row first) behind all row latest more = latest
+by_block (Op op) behind all row latest more = more latest
+
+-- the costs of turns add up
+pub costs_add : (turns more words others one two all : ℕ) → (one ≤ all) × (two ≤ all) → words ≤ turns_cost turns one → others ≤ turns_cost more two
+    → words + others ≤ turns_cost (turns + more) all
+costs_add turns more words others one two all (first, second) low high =
+    let less : turns * (2 * one + 8) ≤ turns * (2 * all + 8) = mul-le turns (2 * one + 8) turns (2 * all + 8) (omega arith) (omega (arith, first)) in
+    let rest : more * (2 * two + 8) ≤ more * (2 * all + 8) = mul-le more (2 * two + 8) more (2 * all + 8) (omega arith) (omega (arith, second)) in
+    let sum : (turns + more) * (2 * all + 8) ≡ turns * (2 * all + 8) + more * (2 * all + 8) = grind (arith) in
+    omega (arith, low, high, less, rest, sum)
+
+-- Of blocks learned first and then others, no row is wider than the widest of all,
+pub widest-append : (first second : List Known) → (widest first ≤ widest (second ++ first)) × (widest second ≤ widest (second ++ first))
+widest-append first [] = (omega arith, omega arith)
+widest-append first (known ∷ second) =
+    let fits = widest-append first second in
+    let more = widest-more known (second ++ first) in
+    let here = le-max_left (width_of known.block) (widest (second ++ first)) in (
+      omega (arith, fits.0, more),
+      max-le here (omega (arith, fits.1, more)),
+    )
+
+-- and the row learned last is the last of those learned then, if there is one.
+pub latest_row-append : (first second : List Known) (row : RowBlock) → latest_row second ≡ Some row → latest_row (second ++ first) ≡ Some row
+latest_row-append first [] row latest = absurd (cc)
+latest_row-append first (known ∷ second) row latest =
+    by_block known.block (latest_row second) (latest_row (second ++ first)) row latest (latest_row-append first second row)
+
+-- What turns spent, and then further ones, is what all of them may.
+abbrev pub spends_then : (turns more losses lost total : ℕ) (old between new : PassView) → losses + lost ≡ total
+    → Spends (turns_cost turns) losses old between → Spends (turns_cost more) lost between new
+    → Spends (turns_cost (turns + more)) total old new
+spends_then turns more losses lost total old between new sum one two = record {
+  learned = two.learned ++ one.learned;
+  words = one.words + two.words;
+  grows = subst (λ (sum : ℕ). Grows (two.learned ++ one.learned) (one.words + two.words) sum old new) sum
+      (grows_then one.learned two.learned one.words two.words losses lost old between new one.grows two.grows);
+  bound = costs_add turns more one.words two.words (widest one.learned) (widest two.learned) (widest (two.learned ++ one.learned))
+      (widest-append one.learned two.learned) one.bound two.bound;
+}
+
+-- A call that takes effect past a later front does so past an earlier one.
+pub past_from : (before between now : List Entry) (entry : Entry) → IsPrefix before between → HasPast between now entry → HasPast before now entry
+past_from before between now entry grows past = record {
+  past = past.past;
+  rest = past.rest;
+  begins = prefix_trans before between past.past grows past.begins;
+  is_front = past.is_front;
+}

@@ -1,0 +1,10 @@
+pub mod Woven
+pub mod Gathered
+pub mod OwnPart
+pub mod Places
+pub mod Readings
+pub mod OwnCalls
+pub mod OneHistory
+pub mod Idle
+pub mod Looking
+pub mod Trying

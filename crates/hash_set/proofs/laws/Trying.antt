@@ -1,0 +1,155 @@
+-- A call that lost some turns, and then makes another, is answered, refused, or has lost one more.
+use Rattle.std.proofs.Common.{◌≡◌, ◌≢◌, ℕ, ◌+◌, ◌<◌, ◌≤◌, Bool, true, false, [], ◌∷◌, ◌++◌, None, inl, inr, ⊎_elim, refl, sym, ◌∙◌, subst, add-zero, arith}
+use native.Mathlib.Decide.{ℕ_discrete}
+use base.Growing.{prefix_refl}
+use Rattle.set_model.specs.declared.call.Call.{Call}
+use Rattle.set_model.specs.declared.call.Call.TheVariants.{Insert, Remove, Contains}
+use Rattle.step_core.specs.declared.views.PassView.{PassView}
+use Rattle.step_core.specs.declared.views.RoundFacts.{RoundFacts}
+use Rattle.fset.specs.Standing.{AnswerStands, HasPast, IsReading, TriedStands, entry_for}
+use Rattle.fset.specs.Frames.{Spends, turns_cost, widest}
+use Rattle.fset.specs.Rows.{IsOutOfWords, Overdrew, WasSpent}
+use Rattle.fset.specs.Turns.{AnswersTurn, LosesTurn, RefusesTurn}
+use Rattle.fset.specs.declared.outcomes.Answered.{Answered}
+use Rattle.fset.proofs.laws.Frames.{behind_self, latest_row-append, own_then, past_from, spends_then}
+use Rattle.hash_set.specs.Calls.{AnswersCall, LosesCall, LosesTurns, RefusesCall}
+
+-- No turn was made yet.
+pub none_lost : (call : Call) (key : ℕ) (view : PassView) → LosesTurns call key 0 view view
+none_lost call key view = record {
+  tries = record {
+    spends = record {
+      learned = [];
+      words = 0;
+      grows = record {
+        number = refl;
+        facts = refl;
+        front = prefix_refl view.front;
+        known = refl;
+        fixed = behind_self view.fixed;
+        asked = behind_self view.asked;
+        drawn = sym (add-zero view.drawn);
+        lost = sym (add-zero view.lost);
+      };
+      bound = omega arith;
+    };
+    others = λ some_lost. absurd (some_lost refl);
+  };
+  own = record { mine = refl; flight = refl; used = refl };
+  spent = refl;
+  unspent = λ some_lost. absurd (some_lost refl);
+  wanted = λ some_lost. absurd (some_lost refl);
+}
+
+-- a reading with the answer false
+reads_false : (call : Call) → call ≢ Contains → IsReading call false
+reads_false Insert writes = refl
+reads_false Remove writes = refl
+reads_false Contains writes = absurd (writes refl)
+
+-- An answer that stands as that of a tried call stands.
+tried_stands : (serial : ℕ) (call : Call) (key : ℕ) (changed : Bool) (old new : PassView) → call ≢ Contains
+    → TriedStands serial call key changed old new → AnswerStands serial call key changed old new
+tried_stands serial call key true old new writes stands = inl stands
+tried_stands serial call key false old new writes stands = inr (reads_false call writes, stands)
+
+module _ (call : Call) (key losses : ℕ) (old between : PassView) (lost : LosesTurns call key losses old between) where
+  -- an answer that stands from later on stands from the start on
+  from_start : (serial : ℕ) (changed : Bool) (new : PassView) → TriedStands serial call key changed between new
+      → TriedStands serial call key changed old new
+  from_start serial true new stands = record {
+    past = subst (λ (who : ℕ). HasPast old.front new.front (entry_for who serial call key true)) lost.tries.spends.grows.number
+        (past_from old.front between.front new.front (entry_for between.number serial call key true) lost.tries.spends.grows.front stands.past);
+    mine = stands.mine
+        ∙ (λ i. lost.own.mine i ++ entry_for (lost.tries.spends.grows.number i) serial call key true ∷ []);
+    landed = stands.landed;
+  }
+  from_start serial false new stands = record {
+    own = own_then old between new lost.own stands.own;
+    answer_is = stands.answer_is;
+  }
+
+  -- the turns and one more, which wasn't lost
+  abbrev and_one : (new : PassView) → Spends (turns_cost 1) 0 between new → Spends (turns_cost (losses + 1)) losses old new
+  and_one new spends = spends_then losses 1 losses 0 losses old between new (add-zero losses) lost.tries.spends spends
+
+  -- The next turn is lost as well.
+  pub then_lost : (new : PassView) → LosesTurn call key between new → LosesTurns call key (losses + 1) old new
+  then_lost new turn = record {
+    tries = record {
+      spends = spends_then losses 1 losses 1 (losses + 1) old between new refl lost.tries.spends turn.spends;
+      others = λ some_lost. subst (λ (facts : RoundFacts). facts.seats ≢ 1) lost.tries.spends.grows.facts turn.others;
+    };
+    own = own_then old between new lost.own turn.own;
+    spent = turn.spent ∙ lost.spent;
+    unspent = λ some_lost. sym lost.spent ∙ turn.unspent;
+    wanted = λ some_lost. turn.wanted;
+  }
+
+  -- It is answered.
+  pub then_answered : (fast serial : ℕ) (answered : Answered) (new : PassView) → losses < fast → call ≢ Contains
+      → AnswersTurn serial call key answered between new → AnswersCall fast serial call key answered old new
+  then_answered fast serial answered new few writes turn =
+      let stands = from_start serial answered.changed new turn.stands in
+      record {
+        losses = losses;
+        few = few;
+        tries = record { spends = and_one new turn.spends; others = lost.tries.others };
+        stands = tried_stands serial call key answered.changed old new writes stands;
+        tried = stands;
+        width = record {
+          row = turn.width.row;
+          latest = latest_row-append lost.tries.spends.learned turn.spends.learned turn.width.row turn.width.latest;
+          home = turn.width.home;
+          counts = turn.width.counts;
+          after = turn.width.after;
+          bound = turn.width.bound;
+        };
+        spent = turn.spent ∙ lost.spent;
+      }
+
+  -- a turn that was refused for want of words, told from the start on
+  out_of_words : (words : ℕ) (new : PassView) → IsOutOfWords words between new
+      → IsOutOfWords (lost.tries.spends.words + words) old new
+  out_of_words words new full = ⊎_elim
+      (λ (was : WasSpent words between new). inl (record {
+        before = λ (none : old.spent ≡ None). was.before (lost.spent ∙ none);
+        still = was.still ∙ lost.spent;
+        none = elim (ℕ_discrete losses 0) [
+          | yes none_lost ↦
+              let bound = subst (λ (n : ℕ). lost.tries.spends.words ≤ turns_cost n (widest lost.tries.spends.learned)) none_lost
+              lost.tries.spends.bound in
+              omega (arith, bound, was.none)
+          | no some_lost ↦ absurd (was.before (lost.spent ∙ lost.unspent some_lost))
+        ];
+      }))
+      (λ (over : Overdrew words between new). inr (record {
+        at = over.at;
+        spent = over.spent;
+        behind = subst (λ (facts : RoundFacts). facts.opened + old.drawn ≤ over.at) lost.tries.spends.grows.facts
+            (omega (arith, over.behind, lost.tries.spends.grows.drawn));
+        past = subst (λ (facts : RoundFacts). facts.cap < over.at + (lost.tries.spends.words + words)) lost.tries.spends.grows.facts
+            (omega (arith, over.past));
+      }))
+      full
+
+  -- It is refused.
+  pub then_full : (fast : ℕ) (new : PassView) → losses < fast → RefusesTurn call key between new → RefusesCall fast call key old new
+  then_full fast new few turn = record {
+    losses = losses;
+    few = few;
+    tries = record { spends = and_one new turn.spends; others = lost.tries.others };
+    own = own_then old between new lost.own turn.own;
+    wanted = turn.wanted;
+    full = out_of_words turn.spends.words new turn.full;
+  }
+
+  -- No further turn is made.
+  pub all_lost : losses ≢ 0 → LosesCall losses call key old between
+  all_lost some_lost = record {
+    tries = lost.tries;
+    own = lost.own;
+    spent = lost.spent;
+    wanted = lost.wanted some_lost;
+    others = lost.tries.others some_lost;
+  }

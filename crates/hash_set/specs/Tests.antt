@@ -1,0 +1,20 @@
+-- What tests with several threads keep of their passes.
+use Rattle.std.specs.Prelude.{◌≡◌, List, All, None}
+use Rattle.cells.specs.Ends.{AreAllPasses}
+use Rattle.cells.specs.Tokens.{IsPassOf, PassValue, RoundValue}
+
+-- the pass is of the round, whose plan announces nothing, and has nothing in flight
+pub record IsIdle (round : RoundValue) (pass : PassValue) : Type 0 where
+  pub ours : IsPassOf round pass
+  pub flight : pass.view.flight ≡ None
+  pub plan : round.plan.turns ≡ 0
+
+-- so it is then, and it is the pass of that number
+pub record Keeps (round : RoundValue) (old new : PassValue) : Type 0 where
+  pub idle : IsIdle round new
+  pub number : new.view.number ≡ old.view.number
+
+-- the passes are all of the round, each once, and idle
+pub record AreIdle (round : RoundValue) (passes : List PassValue) : Type 0 where
+  pub all : AreAllPasses round passes
+  pub idle : All (IsIdle round) passes

@@ -1,0 +1,27 @@
+// Looking a key up.
+ghost use Rattle.std.specs.Prelude.{◌≡◌, ◌<◌, None};
+ghost use Rattle.cells.specs.Tokens.{IsPassOf};
+ghost use Rattle.fset.specs.Standing.{AnswerStands};
+ghost use Rattle.hash_set.specs.Calls.{BeginsCall, OnlyLooks};
+ghost use Rattle.set_model.specs.declared.call.Call.TheVariants.{Contains};
+ghost use Rattle.step_core.specs.Limits.{max_calls};
+
+use cells::{Pass, Round};
+use fset::{find, seek};
+
+/// Whether the key is in the set. It has no refusal, draws nothing, and makes one load of the head
+/// and one of a bucket.
+///
+/// The answer is that of the set after the pass's new front, which begins with its old one.
+pub fn contains(round: &Round, pass: &mut Pass, key: u64) -> bool
+    requires pass { IsPassOf round.now pass.old }
+    requires few { pass.old.calls < max_calls }
+    requires idle { pass.old.view.flight ≡ None }
+    ensures pass { BeginsCall pass.old pass.new }
+    ensures answer { AnswerStands pass.old.calls Contains key result pass.old.view pass.new.view }
+    ensures looks { OnlyLooks pass.old.view pass.new.view }
+{
+    round.begin_call(pass);
+    let sought = seek(round, pass, key);
+    find(round, pass, &sought.row, key)
+}

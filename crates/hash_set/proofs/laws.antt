@@ -5,6 +5,8 @@ pub mod Places
 pub mod Readings
 pub mod OwnCalls
 pub mod OneHistory
+pub mod Lived
+pub mod Making
 pub mod Idle
 pub mod Looking
 pub mod Trying

@@ -1,3 +1,4 @@
 pub mod OneHistory
+pub mod Lives
 pub mod Calls
 pub mod Tests

@@ -1,15 +1,16 @@
 -- How the calls on the set end.
-use Rattle.std.specs.Prelude.{◌≡◌, ◌≢◌, ℕ, ◌+◌, ◌<◌, List, None}
+use Rattle.std.specs.Prelude.{◌≡◌, ◌≢◌, ℕ, ◌+◌, ◌<◌, ◌≤◌, ◌⊎◌, false, List, None, Some}
 use Rattle.set_model.specs.declared.call.Call.{Call}
 use Rattle.step_core.specs.declared.views.Known.{Known}
 use Rattle.step_core.specs.declared.views.PassView.{PassView}
+use Rattle.step_core.specs.declared.views.StepCounts.{StepCounts}
 use Rattle.cells.specs.Tokens.{PassValue}
 use Rattle.fset.specs.declared.outcomes.Answered.{Answered}
 use Rattle.fset.specs.declared.outcomes.Outcome.{Outcome}
 use Rattle.fset.specs.declared.outcomes.Outcome.TheVariants.{Done, Busy, Full}
+use Rattle.fset.specs.Frames.{Grows, KeepsOwn, Spends, turns_cost, widest}
+use Rattle.fset.specs.Rows.{WasSpent}
 use Rattle.fset.specs.Standing.{AnswerStands, TriedStands}
-use Rattle.fset.specs.Frames.{Grows, KeepsOwn, Spends, turns_cost}
-use Rattle.fset.specs.Rows.{IsOutOfWords}
 use Rattle.fset.specs.Turns.{IsWidth, WouldChange}
 
 -- it is the same pass of the same round, and has begun one call more
@@ -19,26 +20,40 @@ pub record BeginsCall (old new : PassValue) : Type 0 where
   pub facts : new.view.facts ≡ old.view.facts
   pub calls : new.calls ≡ old.calls + 1
 
--- a call looked at a bucket of the head: it drew nothing, lost no turn and has no entry
+-- A call looked at a bucket of the head, and at most at all words of its row: it drew nothing, lost no
+-- turn and has no entry.
 pub record OnlyLooks (old new : PassView) : Type 0 where
   pub learned : List Known
   pub grows : Grows learned 0 0 old new
   pub own : KeepsOwn old new
   pub spent : new.spent ≡ old.spent
   pub loads : ℕ
+  pub few : loads ≤ 3 + widest learned
   pub made : new.made ≡ record old.made {
     head_loads = old.made.head_loads + 1;
     sealed_loads = old.made.sealed_loads + loads;
     bucket_loads = old.made.bucket_loads + 1;
   }
 
+-- the steps of so many turns: for each one load of the head and one of a bucket, and at most one draw
+-- and one exchange
+pub record AreTurns (turns : ℕ) (before after : StepCounts) : Type 0 where
+  pub heads : after.head_loads ≡ before.head_loads + turns
+  pub buckets : after.bucket_loads ≡ before.bucket_loads + turns
+  pub draws : after.draws ≤ before.draws + turns
+  pub swaps : after.row_swaps ≤ before.row_swaps + turns
+  pub notes : after.notes ≡ before.notes
+  pub learned : after.learned ≡ before.learned
+
 -- So many turns were made, of which so many were lost, and each drew as much as a turn may. Only where
 -- the round has other passes is one lost.
 pub record Tries (turns losses : ℕ) (old new : PassView) : Type 0 where
   pub spends : Spends (turns_cost turns) losses old new
+  pub steps : AreTurns turns old.made new.made
   pub others : losses ≢ 0 → old.facts.seats ≢ 1
 
--- it was answered, in the turn after those that were lost
+-- It was answered, in the turn after those that were lost. Where it changed nothing, that turn drew
+-- nothing.
 pub record AnswersCall (fast serial : ℕ) (call : Call) (key : ℕ) (answered : Answered)
     (old new : PassView) : Type 0 where
   pub losses : ℕ
@@ -49,31 +64,38 @@ pub record AnswersCall (fast serial : ℕ) (call : Call) (key : ℕ) (answered :
   pub tried : TriedStands serial call key answered.changed old new
   pub width : IsWidth call key answered.width tries.spends.learned new
   pub spent : new.spent ≡ old.spent
-
--- so many turns were made, and lost
-pub record LosesTurns (call : Call) (key turns : ℕ) (old new : PassView) : Type 0 where
-  pub tries : Tries turns turns old new
-  pub own : KeepsOwn old new
-  pub spent : new.spent ≡ old.spent
-  pub unspent : turns ≢ 0 → old.spent ≡ None
-  pub wanted : turns ≢ 0 → WouldChange call key new
+  pub reads : answered.changed ≡ false
+      → tries.spends.words ≤ turns_cost losses (widest tries.spends.learned)
 
 -- all its turns were lost, to other passes
 pub record LosesCall (fast : ℕ) (call : Call) (key : ℕ) (old new : PassView) : Type 0 where
   pub tries : Tries fast fast old new
   pub own : KeepsOwn old new
+  pub unspent : old.spent ≡ None
   pub spent : new.spent ≡ old.spent
   pub wanted : WouldChange call key new
   pub others : old.facts.seats ≢ 1
 
--- a block that it needed wasn't to be had
+-- behind so many words the pass drew so many more, which passed the end: it is spent, with the place
+-- that this draw found
+pub record OverdrewAfter (before last : ℕ) (old new : PassView) : Type 0 where
+  pub at : ℕ
+  pub spent : new.spent ≡ Some at
+  pub behind : old.facts.opened + (old.drawn + before) ≤ at
+  pub past : old.facts.cap < at + last
+
+-- A block that it needed wasn't to be had: the pass was spent before, and the call drew nothing; or its
+-- last draw passed the end.
 pub record RefusesCall (fast : ℕ) (call : Call) (key : ℕ) (old new : PassView) : Type 0 where
   pub losses : ℕ
   pub few : losses < fast
   pub tries : Tries (losses + 1) losses old new
   pub own : KeepsOwn old new
   pub wanted : WouldChange call key new
-  pub full : IsOutOfWords tries.spends.words old new
+  pub before : ℕ
+  pub last : ℕ
+  pub words : tries.spends.words ≡ before + last
+  pub full : WasSpent tries.spends.words old new ⊎ OverdrewAfter before last old new
 
 -- how an insert or a remove ended that is tried at most so often
 abbrev pub EndsCall : ℕ → ℕ → Call → ℕ → Outcome → PassView → PassView → Type 0

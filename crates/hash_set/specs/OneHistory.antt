@@ -1,6 +1,6 @@
 -- How all answered calls of a round's passes make one legal history: readings have no entry in the
 -- round's history, and stand behind what they saw of it.
-use Rattle.std.specs.Prelude.{◌≡◌, ℕ, ◌<◌, ◌⊎◌, Bool, true, false, List, [], ◌∷◌, map, All, ⊤}
+use Rattle.std.specs.Prelude.{◌≡◌, ℕ, zero, suc, ◌<◌, ◌&&◌, Bool, true, false, not, nat_eq, List, [], ◌∷◌, ◌++◌, length, map, All, ⊤}
 use Rattle.std.specs.List.{filter}
 use mathlib.Core.List.{IsPrefix}
 use Rattle.set_model.specs.Call.{answer_where}
@@ -52,19 +52,36 @@ pub record ArePassCalls (keys : List ℕ) (history : List Entry) (pass : ℕ)
   pub own : entries_by pass history
       ≡ map (λ call. call.entry) (filter (λ call. call.entered) calls)
 
--- the first list is the second with some entries left out
-abbrev pub KeepsOrder : List Entry → List Entry → Type 0
-KeepsOrder [] whole = ⊤
-KeepsOrder (entry ∷ rest) [] = ⊥
-KeepsOrder (entry ∷ rest) (first ∷ whole) =
-    ((entry ≡ first) × KeepsOrder rest whole) ⊎ KeepsOrder (entry ∷ rest) whole
+-- the call is a reading whose pass had then seen so many entries
+abbrev pub reads_at : ℕ → AnsweredCall → Bool
+reads_at place call = not call.entered && nat_eq (length call.after) place
 
--- One legal history of a plain set that begins with the keys: it has the round's history, with readings
--- put in between; and of each of so many passes the calls, each once and in order, and no others.
+-- the entries of such readings, in order
+abbrev pub readings_at : ℕ → List AnsweredCall → List Entry
+readings_at place calls = map (λ call. call.entry) (filter (reads_at place) calls)
+
+-- the lists of the passes below a number, one behind the other
+abbrev pub gathered : ℕ → (ℕ → List Entry) → List Entry
+gathered zero lists = []
+gathered (suc count) lists = gathered count lists ++ lists count
+
+-- a history with other entries put in: those of a place stand before the entry there, or last
+abbrev pub woven : (ℕ → List Entry) → ℕ → List Entry → List Entry
+woven at place [] = at place
+woven at place (entry ∷ rest) = at place ++ entry ∷ woven at (suc place) rest
+
+-- the round's history, with each reading directly behind what its pass had then seen
+abbrev pub with_readings : ℕ → (ℕ → List AnsweredCall) → List Entry → List Entry
+with_readings seats calls history =
+    woven (λ place. gathered seats (λ pass. readings_at place (calls pass))) 0 history
+
+-- One legal history of a plain set that begins with the keys: it is the round's history, with each
+-- reading directly behind what its pass had then seen; and of each of so many passes it has the calls,
+-- each once and in order, and no others.
 pub record IsOneHistory (keys : List ℕ) (history : List Entry) (seats : ℕ)
     (calls : ℕ → List AnsweredCall) (whole : List Entry) : Type 0 where
   pub legal : IsLegal (is_in keys) whole
-  pub order : KeepsOrder history whole
+  pub placed : whole ≡ with_readings seats calls history
   pub each : (pass : ℕ) → pass < seats
       → entries_by pass whole ≡ map (λ call. call.entry) (calls pass)
   pub who : All (IsOfPasses seats) whole

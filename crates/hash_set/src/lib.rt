@@ -4,10 +4,11 @@
 //! `remove` and `contains` take one, and wait for nobody. The round has one *history*, the list of
 //! the calls that changed the set, each with its answer; a pass's *front* is what it has seen of it.
 //!
-//! The promise: every answer stands for its pass (`AnswerStands` of `fset`'s `specs/Answers.antt`).
+//! The promise: every answer stands for its pass (`AnswerStands` of `fset`'s `specs/Standing.antt`).
 //! A call that changed the set has its entry in the history, past all that the pass had seen; one
 //! that didn't has the answer of the set after what the pass has then seen. So all answered calls of
-//! all passes make one history that a plain set gives: the law `one_history`. The smallest use is
+//! all passes make one history that a plain set gives: the law
+//! `answered_calls_are_one_history`. The smallest use is
 //! the test `what_one_pass_inserts_another_finds`.
 #![tactic(auto)]
 

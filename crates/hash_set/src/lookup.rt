@@ -1,5 +1,5 @@
 // Looking a key up.
-ghost use Rattle.std.specs.Prelude.{◌≡◌, ◌<◌, None};
+ghost use Rattle.std.specs.Prelude.{◌<◌};
 ghost use Rattle.cells.specs.Tokens.{IsPassOf};
 ghost use Rattle.fset.specs.Standing.{AnswerStands};
 ghost use Rattle.hash_set.specs.Calls.{BeginsCall, OnlyLooks};
@@ -16,7 +16,6 @@ use fset::{find, seek};
 pub fn contains(round: &Round, pass: &mut Pass, key: u64) -> bool
     requires pass { IsPassOf round.now pass.old }
     requires few { pass.old.calls < max_calls }
-    requires idle { pass.old.view.flight ≡ None }
     ensures pass { BeginsCall pass.old pass.new }
     ensures answer { AnswerStands pass.old.calls Contains key result pass.old.view pass.new.view }
     ensures looks { OnlyLooks pass.old.view pass.new.view }

@@ -9,7 +9,8 @@ use cells::{Pass, Round};
 use fset::{Outcome, Turn, turn};
 use set_model::Call;
 
-/// Puts the key into the set. Done tells whether it was absent.
+/// Puts the key into the set. Done tells whether it was absent. The pass must have begun fewer than
+/// `MAX_CALLS` calls and have no operation in flight, and the plan must have no announced turns.
 ///
 /// It is Busy only where as many turns as the plan's `fast` were lost to other passes, which never
 /// befalls the only pass of a round; and Full only where the pass was spent, or a draw of this call
@@ -21,6 +22,7 @@ pub fn insert(round: &Round, pass: &mut Pass, key: u64) -> Outcome
     requires idle { pass.old.view.flight ≡ None }
     requires plan { round.now.plan.turns ≡ 0 }
     ensures pass { BeginsCall pass.old pass.new }
+    ensures idle { pass.new.view.flight ≡ None }
     ensures answer { EndsCall round.now.plan.fast pass.old.calls Insert key result
         pass.old.view pass.new.view }
 {
@@ -28,14 +30,15 @@ pub fn insert(round: &Round, pass: &mut Pass, key: u64) -> Outcome
     change(round, pass, Call::Insert, key)
 }
 
-/// Takes the key out of the set. Done tells whether it was present. Busy and Full are as for
-/// `insert`.
+/// Takes the key out of the set. Done tells whether it was present. What it asks, and when it is Busy
+/// or Full, is as for `insert`.
 pub fn remove(round: &Round, pass: &mut Pass, key: u64) -> Outcome
     requires pass { IsPassOf round.now pass.old }
     requires few { pass.old.calls < max_calls }
     requires idle { pass.old.view.flight ≡ None }
     requires plan { round.now.plan.turns ≡ 0 }
     ensures pass { BeginsCall pass.old pass.new }
+    ensures idle { pass.new.view.flight ≡ None }
     ensures answer { EndsCall round.now.plan.fast pass.old.calls Remove key result
         pass.old.view pass.new.view }
 {
@@ -50,6 +53,7 @@ fn change(round: &Round, pass: &mut Pass, call: Call, key: u64) -> Outcome
     requires idle { pass.old.view.flight ≡ None }
     requires plan { round.now.plan.turns ≡ 0 }
     ensures pass { IsSamePass pass.old pass.new }
+    ensures idle { pass.new.view.flight ≡ None }
     ensures answer { EndsCall round.now.plan.fast (pass.old.calls - 1) call key result
         pass.old.view pass.new.view }
 {

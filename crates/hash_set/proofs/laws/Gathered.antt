@@ -4,15 +4,11 @@ use Rattle.std.proofs.lemmas.List.Elements.{All-nil, All-head, All-tail, All-app
 use native.Mathlib.Decide.{ℕ_discrete}
 use Rattle.set_model.specs.declared.entry.Entry.{Entry}
 use Rattle.cells.specs.Past.{entries_by}
+use Rattle.hash_set.specs.OneHistory.{gathered}
 
 -- the entry is the pass's
 abbrev pub IsBy : ℕ → Entry → Type 0
 IsBy pass entry = entry.who ≡ pass
-
--- the lists of the passes below a number, one behind the other
-abbrev pub gathered : ℕ → (ℕ → List Entry) → List Entry
-gathered zero lists = []
-gathered (suc count) lists = gathered count lists ++ lists count
 
 -- a list of a pass's entries has its entries alone
 entries_by-all : (pass : ℕ) (list : List Entry) → All (IsBy pass) list → entries_by pass list ≡ list

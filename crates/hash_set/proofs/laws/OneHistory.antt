@@ -7,13 +7,13 @@ use Rattle.set_model.specs.Keys.{is_in}
 use Rattle.set_model.specs.declared.entry.Entry.{Entry}
 use Rattle.cells.specs.Past.{IsOfPasses}
 use Rattle.cells.proofs.laws.Fronts.{shorter_begins, full_front}
-use Rattle.hash_set.specs.OneHistory.{AnsweredCall, IsAnswered, ArePassCalls, IsOneHistory}
-use Rattle.hash_set.proofs.laws.Gathered.{IsBy, AreOwn, gathered, gathered-own, all_gathered}
+use Rattle.hash_set.specs.OneHistory.{AnsweredCall, IsAnswered, ArePassCalls, IsOneHistory, readings_at, gathered, woven}
+use Rattle.hash_set.proofs.laws.Gathered.{IsBy, AreOwn, gathered-own, all_gathered}
 use Rattle.hash_set.proofs.laws.OwnCalls.{IsCallOf, all_entries, part_with, own_part-calls}
 use Rattle.hash_set.proofs.laws.OwnPart.{entries_by-woven}
 use Rattle.hash_set.proofs.laws.Places.{calls_have_places}
-use Rattle.hash_set.proofs.laws.Readings.{readings_at, all_readings}
-use Rattle.hash_set.proofs.laws.Woven.{ReadsFrom, woven, woven_is_legal, all_woven, woven_keeps_order}
+use Rattle.hash_set.proofs.laws.Readings.{all_readings}
+use Rattle.hash_set.proofs.laws.Woven.{ReadsFrom, woven_is_legal, all_woven}
 
 -- two fronts of one length of one history are one
 same_front : (front other history : List Entry) → IsPrefix front history → IsPrefix other history → length front ≡ length other
@@ -72,7 +72,7 @@ one_history keys history seats calls legal who passes =
         legal = woven_is_legal at 0 (is_in keys) history (λ front place begins is.
             all_gathered (ReadsFrom (members_after (is_in keys) front)) (readings place) seats (λ pass less.
             readings_read keys history pass (calls pass) (passes pass less) front place begins (omega arith))) legal;
-        order = woven_keeps_order at 0 history;
+        placed = refl;
         each = λ pass less.
             entries_by-woven pass at (λ place. readings place pass) 0 history
             (λ place. gathered-own (readings place) pass seats less (own place))

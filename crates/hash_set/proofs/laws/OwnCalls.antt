@@ -7,9 +7,9 @@ use Rattle.std.specs.List.{filter}
 use mathlib.Core.Bool.{true≢false}
 use Rattle.set_model.specs.declared.entry.Entry.{Entry}
 use Rattle.cells.specs.Past.{entries_by}
-use Rattle.hash_set.specs.OneHistory.{AnsweredCall}
+use Rattle.hash_set.specs.OneHistory.{AnsweredCall, readings_at}
 use Rattle.hash_set.proofs.laws.OwnPart.{own_part, own_part-skip, own_part-reading}
-use Rattle.hash_set.proofs.laws.Readings.{readings_at, readings_at-here, readings_at-other, reads_elsewhere, reads_here, no_earlier_reading, no_reading_skipped}
+use Rattle.hash_set.proofs.laws.Readings.{readings_at-here, readings_at-other, reads_elsewhere, reads_here, no_earlier_reading, no_reading_skipped}
 use Rattle.hash_set.proofs.laws.Places.{entries_of, gone_behind, entries_of-entered, entries_of-reading, HasPlace, HavePlaces}
 
 -- the entries of the entered calls, in order

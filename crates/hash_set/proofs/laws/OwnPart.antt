@@ -4,7 +4,7 @@ use Rattle.std.proofs.lemmas.List.{nil_from_length}
 use Rattle.std.proofs.lemmas.List.Elements.{filter-append}
 use Rattle.set_model.specs.declared.entry.Entry.{Entry}
 use Rattle.cells.specs.Past.{entries_by}
-use Rattle.hash_set.proofs.laws.Woven.{woven}
+use Rattle.hash_set.specs.OneHistory.{woven}
 
 -- two lists that together are empty are both empty
 both_empty : (first second : List Entry) → first ++ second ≡ [] → (first ≡ []) × (second ≡ [])

@@ -6,16 +6,8 @@ use Rattle.std.specs.List.{filter}
 use mathlib.Core.Bool.{true≢false}
 use native.Mathlib.Decide.{ℕ_discrete}
 use Rattle.set_model.specs.declared.entry.Entry.{Entry}
-use Rattle.hash_set.specs.OneHistory.{AnsweredCall}
+use Rattle.hash_set.specs.OneHistory.{AnsweredCall, reads_at, readings_at}
 use Rattle.hash_set.proofs.laws.Places.{entries_of, gone_behind, HasPlace, HavePlaces}
-
--- the call is a reading that had seen so many entries
-abbrev pub reads_at : ℕ → AnsweredCall → Bool
-reads_at place call = not call.entered && nat_eq (length call.after) place
-
--- the entries of such readings, in order
-abbrev pub readings_at : ℕ → List AnsweredCall → List Entry
-readings_at place calls = map (λ call. call.entry) (filter (reads_at place) calls)
 
 -- a reading that stands there comes first
 pub readings_at-here : (place : ℕ) (call : AnsweredCall) (calls : List AnsweredCall) → reads_at place call ≡ true

@@ -1,18 +1,39 @@
 -- A call that lost some turns, and then makes another, is answered, refused, or has lost one more.
-use Rattle.std.proofs.Common.{◌≡◌, ◌≢◌, ℕ, ◌+◌, ◌<◌, ◌≤◌, Bool, true, false, [], ◌∷◌, ◌++◌, None, inl, inr, ⊎_elim, refl, sym, ◌∙◌, subst, add-zero, arith}
+use Rattle.std.proofs.Common.{◌≡◌, ◌≢◌, ℕ, ◌+◌, ◌⊎◌, ◌<◌, ◌≤◌, Bool, true, false, [], ◌∷◌, ◌++◌, None, inl, inr, ⊎_elim, refl, sym, ◌∙◌, subst, add-zero, arith}
 use native.Mathlib.Decide.{ℕ_discrete}
 use base.Growing.{prefix_refl}
 use Rattle.set_model.specs.declared.call.Call.{Call}
 use Rattle.set_model.specs.declared.call.Call.TheVariants.{Insert, Remove, Contains}
 use Rattle.step_core.specs.declared.views.PassView.{PassView}
 use Rattle.step_core.specs.declared.views.RoundFacts.{RoundFacts}
+use Rattle.step_core.specs.declared.views.StepCounts.{StepCounts}
 use Rattle.fset.specs.Standing.{AnswerStands, HasPast, IsReading, TriedStands, entry_for}
-use Rattle.fset.specs.Frames.{Spends, turns_cost, widest}
+use Rattle.fset.specs.Frames.{KeepsOwn, Spends, turns_cost, widest}
 use Rattle.fset.specs.Rows.{IsOutOfWords, Overdrew, WasSpent}
-use Rattle.fset.specs.Turns.{AnswersTurn, LosesTurn, RefusesTurn}
+use Rattle.fset.specs.Turns.{AnswersTurn, AreOneTurn, LosesTurn, RefusesTurn, WouldChange}
 use Rattle.fset.specs.declared.outcomes.Answered.{Answered}
-use Rattle.fset.proofs.laws.Frames.{behind_self, latest_row-append, own_then, past_from, spends_then}
-use Rattle.hash_set.specs.Calls.{AnswersCall, LosesCall, LosesTurns, RefusesCall}
+use Rattle.fset.proofs.laws.Frames.{behind_self, costs_add, latest_row-append, own_then, past_from, spends_then, widest-append}
+use Rattle.hash_set.specs.Calls.{AnswersCall, AreTurns, LosesCall, OverdrewAfter, RefusesCall, Tries}
+
+-- so many turns were made, and lost
+pub record LosesTurns (call : Call) (key turns : ℕ) (old new : PassView) : Type 0 where
+  pub tries : Tries turns turns old new
+  pub own : KeepsOwn old new
+  pub spent : new.spent ≡ old.spent
+  pub unspent : turns ≢ 0 → old.spent ≡ None
+  pub wanted : turns ≢ 0 → WouldChange call key new
+
+-- turns that follow each other make the steps of all of them
+turns_then : (turns : ℕ) (before between after : StepCounts) → AreTurns turns before between → AreOneTurn between after
+    → AreTurns (turns + 1) before after
+turns_then turns before between after some_turns one = record {
+  heads = omega (arith, some_turns.heads, one.heads);
+  buckets = omega (arith, some_turns.buckets, one.buckets);
+  draws = omega (arith, some_turns.draws, one.draws);
+  swaps = omega (arith, some_turns.swaps, one.swaps);
+  notes = one.notes ∙ some_turns.notes;
+  learned = one.learned ∙ some_turns.learned;
+}
 
 -- No turn was made yet.
 pub none_lost : (call : Call) (key : ℕ) (view : PassView) → LosesTurns call key 0 view view
@@ -32,6 +53,14 @@ none_lost call key view = record {
         lost = sym (add-zero view.lost);
       };
       bound = omega arith;
+    };
+    steps = record {
+      heads = sym (add-zero view.made.head_loads);
+      buckets = sym (add-zero view.made.bucket_loads);
+      draws = omega arith;
+      swaps = omega arith;
+      notes = refl;
+      learned = refl;
     };
     others = λ some_lost. absurd (some_lost refl);
   };
@@ -74,10 +103,11 @@ module _ (call : Call) (key losses : ℕ) (old between : PassView) (lost : Loses
   and_one new spends = spends_then losses 1 losses 0 losses old between new (add-zero losses) lost.tries.spends spends
 
   -- The next turn is lost as well.
-  pub then_lost : (new : PassView) → LosesTurn call key between new → LosesTurns call key (losses + 1) old new
-  then_lost new turn = record {
+  pub then_lost : (new : PassView) → LosesTurn call key between new → AreOneTurn between.made new.made → LosesTurns call key (losses + 1) old new
+  then_lost new turn one = record {
     tries = record {
       spends = spends_then losses 1 losses 1 (losses + 1) old between new refl lost.tries.spends turn.spends;
+      steps = turns_then losses old.made between.made new.made lost.tries.steps one;
       others = λ some_lost. subst (λ (facts : RoundFacts). facts.seats ≢ 1) lost.tries.spends.grows.facts turn.others;
     };
     own = own_then old between new lost.own turn.own;
@@ -88,13 +118,17 @@ module _ (call : Call) (key losses : ℕ) (old between : PassView) (lost : Loses
 
   -- It is answered.
   pub then_answered : (fast serial : ℕ) (answered : Answered) (new : PassView) → losses < fast → call ≢ Contains
-      → AnswersTurn serial call key answered between new → AnswersCall fast serial call key answered old new
-  then_answered fast serial answered new few writes turn =
+      → AnswersTurn serial call key answered between new → AreOneTurn between.made new.made → AnswersCall fast serial call key answered old new
+  then_answered fast serial answered new few writes turn one =
       let stands = from_start serial answered.changed new turn.stands in
       record {
         losses = losses;
         few = few;
-        tries = record { spends = and_one new turn.spends; others = lost.tries.others };
+        tries = record {
+          spends = and_one new turn.spends;
+          steps = turns_then losses old.made between.made new.made lost.tries.steps one;
+          others = lost.tries.others;
+        };
         stands = tried_stands serial call key answered.changed old new writes stands;
         tried = stands;
         width = record {
@@ -106,11 +140,18 @@ module _ (call : Call) (key losses : ℕ) (old between : PassView) (lost : Loses
           bound = turn.width.bound;
         };
         spent = turn.spent ∙ lost.spent;
+        reads = λ unchanged.
+            let none = turn.reads unchanged in
+            let fits = widest-append lost.tries.spends.learned turn.spends.learned in
+            let all = costs_add losses 0 lost.tries.spends.words 0 (widest lost.tries.spends.learned) (widest turn.spends.learned)
+            (widest (turn.spends.learned ++ lost.tries.spends.learned)) fits lost.tries.spends.bound (omega arith) in
+            subst (λ (n : ℕ). lost.tries.spends.words + turn.spends.words ≤ turns_cost n (widest (turn.spends.learned ++ lost.tries.spends.learned)))
+            (add-zero losses) (omega (arith, all, none));
       }
 
   -- a turn that was refused for want of words, told from the start on
   out_of_words : (words : ℕ) (new : PassView) → IsOutOfWords words between new
-      → IsOutOfWords (lost.tries.spends.words + words) old new
+      → WasSpent (lost.tries.spends.words + words) old new ⊎ OverdrewAfter lost.tries.spends.words words old new
   out_of_words words new full = ⊎_elim
       (λ (was : WasSpent words between new). inl (record {
         before = λ (none : old.spent ≡ None). was.before (lost.spent ∙ none);
@@ -126,21 +167,28 @@ module _ (call : Call) (key losses : ℕ) (old between : PassView) (lost : Loses
       (λ (over : Overdrew words between new). inr (record {
         at = over.at;
         spent = over.spent;
-        behind = subst (λ (facts : RoundFacts). facts.opened + old.drawn ≤ over.at) lost.tries.spends.grows.facts
-            (omega (arith, over.behind, lost.tries.spends.grows.drawn));
-        past = subst (λ (facts : RoundFacts). facts.cap < over.at + (lost.tries.spends.words + words)) lost.tries.spends.grows.facts
-            (omega (arith, over.past));
+        behind = subst (λ (z : RoundFacts × ℕ). z.0.opened + z.1 ≤ over.at)
+            (λ i. (lost.tries.spends.grows.facts i, lost.tries.spends.grows.drawn i)) over.behind;
+        past = subst (λ (facts : RoundFacts). facts.cap < over.at + words) lost.tries.spends.grows.facts over.past;
       }))
       full
 
   -- It is refused.
-  pub then_full : (fast : ℕ) (new : PassView) → losses < fast → RefusesTurn call key between new → RefusesCall fast call key old new
-  then_full fast new few turn = record {
+  pub then_full : (fast : ℕ) (new : PassView) → losses < fast → RefusesTurn call key between new → AreOneTurn between.made new.made
+      → RefusesCall fast call key old new
+  then_full fast new few turn one = record {
     losses = losses;
     few = few;
-    tries = record { spends = and_one new turn.spends; others = lost.tries.others };
+    tries = record {
+      spends = and_one new turn.spends;
+      steps = turns_then losses old.made between.made new.made lost.tries.steps one;
+      others = lost.tries.others;
+    };
     own = own_then old between new lost.own turn.own;
     wanted = turn.wanted;
+    before = lost.tries.spends.words;
+    last = turn.spends.words;
+    words = refl;
     full = out_of_words turn.spends.words new turn.full;
   }
 
@@ -149,6 +197,7 @@ module _ (call : Call) (key losses : ℕ) (old between : PassView) (lost : Loses
   all_lost some_lost = record {
     tries = lost.tries;
     own = lost.own;
+    unspent = lost.unspent some_lost;
     spent = lost.spent;
     wanted = lost.wanted some_lost;
     others = lost.tries.others some_lost;

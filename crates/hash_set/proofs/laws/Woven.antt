@@ -1,5 +1,5 @@
 -- Calls that read the set, woven into a legal history where each reads it, leave it legal.
-use Rattle.std.proofs.Common.{◌≡◌, ℕ, suc, ◌+◌, Bool, true, false, not, List, [], ◌∷◌, ◌++◌, inl, inr, length, All, refl, sym, ap, ◌∙◌, subst, arith, append-nil}
+use Rattle.std.proofs.Common.{◌≡◌, ℕ, suc, ◌+◌, Bool, true, false, not, List, [], ◌∷◌, ◌++◌, length, All, refl, sym, ap, ◌∙◌, subst, arith, append-nil}
 use Rattle.std.proofs.lemmas.List.Elements.{All-head, All-tail, All-cons, All-append}
 use mathlib.Core.List.{IsPrefix}
 use native.Mathlib.Decide.{ℕ_discrete}
@@ -10,13 +10,7 @@ use Rattle.set_model.specs.declared.call.Call.TheVariants.{Insert, Remove, Conta
 use Rattle.set_model.specs.declared.entry.Entry.{Entry}
 use Rattle.set_model.proofs.LawMembers.{members_after_call-Insert, members_after_call-Remove, members_after_call-Contains, members_after_call-other}
 use Rattle.fset.specs.Standing.{IsReading}
-use Rattle.hash_set.specs.OneHistory.{KeepsOrder}
-
--- A history with other entries woven in: those of a place stand in front of the entry there, or last. Places are counted from
--- the given number.
-abbrev pub woven : (ℕ → List Entry) → ℕ → List Entry → List Entry
-woven at seen [] = at seen
-woven at seen (entry ∷ rest) = at seen ++ entry ∷ woven at (suc seen) rest
+use Rattle.hash_set.specs.OneHistory.{woven}
 
 -- the entry's call reads the set of these members, and changes nothing
 abbrev pub ReadsFrom : (ℕ → Bool) → Entry → Type 0
@@ -86,15 +80,3 @@ all_woven P at seen (entry ∷ rest) others own =
     All-append P (at seen) (entry ∷ woven at (suc seen) rest) (others seen)
     (All-cons P entry (woven at (suc seen) rest) (All-head P entry rest own)
     (all_woven P at (suc seen) rest others (All-tail P entry rest own)))
-
--- what keeps the order of a list does so behind others too
-keeps_behind : (front list whole : List Entry) → KeepsOrder list whole → KeepsOrder list (front ++ whole)
-keeps_behind [] list whole keeps = keeps
-keeps_behind (first ∷ front) [] whole keeps = tt
-keeps_behind (first ∷ front) (entry ∷ rest) whole keeps = inr (keeps_behind front (entry ∷ rest) whole keeps)
-
--- The history keeps its order among what is woven in.
-pub woven_keeps_order : (at : ℕ → List Entry) (seen : ℕ) (history : List Entry) → KeepsOrder history (woven at seen history)
-woven_keeps_order at seen [] = tt
-woven_keeps_order at seen (entry ∷ rest) =
-    keeps_behind (at seen) (entry ∷ rest) (entry ∷ woven at (suc seen) rest) (inl (refl, woven_keeps_order at (suc seen) rest))

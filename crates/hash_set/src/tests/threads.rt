@@ -16,6 +16,17 @@ use step_core::live_keys;
 // The ids are 1 to so many.
 const IDS: u64 = 4000;
 
+// What each thread does.
+#[derive(Clone, Copy, Debug, PartialEq, Eq)]
+enum Work {
+    // Inserts the ids of its part and of the next.
+    Insert,
+    // Removes every third of them.
+    Remove,
+    // Inserts and removes a key that is its own.
+    OwnKey,
+}
+
 // Whether the call changed the set.
 fn has_changed(outcome: Option<Outcome>) -> bool {
     match outcome {
@@ -55,12 +66,50 @@ fn call_in_parts(round: &Round, pass: &mut Pass, call: Call, part: (u64, u64), m
     }
 }
 
+// Inserts and removes the thread's own key by turns, and looks it up each time. At the end the key's mark is
+// 1 where the key is in the set, and more where a look-up was wrong.
+fn change_own_key(round: &Round, pass: &mut Pass, key: u64, marks: &[AtomicU64])
+    requires pass { IsIdle round.now pass.old }
+    requires marks { key < length marks.now }
+    ensures { Keeps round.now pass.old pass.new }
+{
+    let mut present = false;
+    for k in 0..500 {
+        let outcome = if k % 2 == 0 {
+            inserted(round, pass, key)
+        } else {
+            removed(round, pass, key)
+        };
+        if has_changed(outcome) {
+            present = k % 2 == 0;
+        }
+        if contained(round, pass, key) != Some(present) {
+            marks[key as usize].fetch_add(2, SeqCst);
+        }
+    }
+    marks[key as usize].fetch_add(u64::from(present), SeqCst);
+}
+
+// A thread's work.
+fn do_work(round: &Round, pass: &mut Pass, work: Work, part: (u64, u64), marks: &[AtomicU64])
+    requires pass { IsIdle round.now pass.old }
+    requires marks { IDS ≤ length marks.now }
+    requires part { (part.0 < 64) × (1 ≤ part.1) × (part.1 ≤ 64) }
+    ensures { Keeps round.now pass.old pass.new }
+{
+    match work {
+        Work::Insert => call_in_parts(round, pass, Call::Insert, part, marks),
+        Work::Remove => call_in_parts(round, pass, Call::Remove, part, marks),
+        Work::OwnKey => change_own_key(round, pass, part.0, marks),
+    }
+}
+
 // Each thread does so with its pass.
 fn call_each<R: Threads + Sync>(
     rt: &R,
     round: &Round,
     passes: &mut [Pass],
-    call: Call,
+    work: Work,
     marks: &[AtomicU64],
 )
     requires passes { All (IsIdle round.now) passes.old }
@@ -78,15 +127,15 @@ fn call_each<R: Threads + Sync>(
         → (slice_index_or passes.new k d).view.number ≡ (slice_index_or passes.old k d).view.number }
 {
     let count = passes.len() as u64;
-    let work = |index: usize, pass: &mut Pass|
+    let turns = |index: usize, pass: &mut Pass|
         requires { (index < 64) × (1 ≤ count) × (count ≤ 64) × IsIdle round.now pass.now
             × (IDS ≤ length marks.now) }
         ensures { (pass.exit.now.table ≡ round.entry.now.table)
             × (pass.exit.now.view.facts ≡ round.entry.now.facts)
             × (pass.exit.now.view.flight ≡ None)
             × (pass.exit.now.view.number ≡ pass.entry.now.view.number) }
-    { call_in_parts(round, pass, call, (index as u64, count), marks) };
-    thread::for_each_mut(rt, passes, 64, &work);
+    { do_work(round, pass, work, (index as u64, count), marks) };
+    thread::for_each_mut(rt, passes, 64, &turns);
 }
 
 // The same of all passes of a round.
@@ -94,7 +143,7 @@ fn call_together<R: Threads + Sync>(
     rt: &R,
     round: &Round,
     mut passes: Vec<Pass>,
-    call: Call,
+    work: Work,
     marks: &[AtomicU64],
 ) -> Vec<Pass>
     requires passes { AreIdle round.now passes.items }
@@ -103,7 +152,7 @@ fn call_together<R: Threads + Sync>(
     ensures passes { AreIdle round.now result.items }
     ensures long { length result.items ≡ length passes.items }
 {
-    call_each(rt, round, passes.as_mut_slice(), call, marks);
+    call_each(rt, round, passes.as_mut_slice(), work, marks);
     passes
 }
 
@@ -143,8 +192,8 @@ fn keys_left<R: Threads + Sync>(
 {
     let keys = other_keys(alloc)?;
     let (round, passes) = begin(alloc, count, keys.as_slice(), 1_000_000, 1_000_000)?;
-    let passes = call_together(rt, &round, passes, Call::Insert, inserts);
-    let passes = call_together(rt, &round, passes, Call::Remove, removes);
+    let passes = call_together(rt, &round, passes, Work::Insert, inserts);
+    let passes = call_together(rt, &round, passes, Work::Remove, removes);
     let words = ended(alloc, round, passes)?;
     live_keys(alloc, &words)
 }
@@ -186,5 +235,31 @@ fn sixty_four_threads_change_each_id_once(rt: HostRuntime) -> Result<(), Fail> {
         assert_eq!(rt; mark.load(SeqCst), u64::from(place % 3 == 2), "{place}");
     }
     assert!(rt; keys.as_slice() == expected(rt.alloc())?.as_slice());
+    Ok(())
+}
+
+// The keys that eight threads leave of their own, which share one bucket. A call is tried once, so many
+// are refused.
+fn own_keys_left<R: Threads + Sync>(
+    rt: &R,
+    alloc: Global,
+    marks: &[AtomicU64],
+) -> Result<Vec<u64>, NoMemory>
+    requires marks { IDS ≤ length marks.now }
+{
+    let (round, passes) = begin(alloc, 8, &[], 1, 1_000_000)?;
+    let passes = call_together(rt, &round, passes, Work::OwnKey, marks);
+    let words = ended(alloc, round, passes)?;
+    live_keys(alloc, &words)
+}
+
+#[test]
+fn refused_calls_change_nothing(rt: HostRuntime) -> Result<(), Fail> {
+    let marks = no_marks(rt.alloc())?;
+    let keys = own_keys_left(&rt, rt.alloc(), marks.as_slice())?;
+    for (key, mark) in marks.iter().enumerate() {
+        let present = keys.as_slice().contains(&(key as u64));
+        assert_eq!(rt; mark.load(SeqCst), u64::from(present), "{key}");
+    }
     Ok(())
 }

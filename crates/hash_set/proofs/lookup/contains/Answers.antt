@@ -1,4 +1,4 @@
-use Rattle.std.proofs.Common.{ap, subst}
+use Rattle.std.proofs.Common.{ap, subst, arith}
 use Rattle.step_core.specs.declared.views.PassView.{PassView}
 use Rattle.cells.specs.Known.{keys_at}
 use Rattle.cells.specs.Tokens.{PassValue}
@@ -15,4 +15,4 @@ returns-clause-looks c =
     only_looks c.args.key c.args.pass.now.view view c.find.new.pass.view sought
     (loads_to_find (keys_at view sought.row.at) c.args.key)
     (subst (λ (old : PassView). Seeks c.args.key old sought view) (ap (λ (pass : PassValue). pass.view) c.begin_call.ensures.pass)
-    c.seek-sought.ensures.answer) c.find.ensures.view
+    c.seek-sought.ensures.answer) (omega arith) c.find.ensures.view

@@ -21,6 +21,7 @@ returns-in-Done-clause-answer c =
     (subst (λ (plan : Plan). c.loop-losses.losses < plan.fast) c.plan-losses-end.ensures c.loop-losses-test.true) c.requires.call.0
     (subst (λ (calls : ℕ). AnswersTurn (calls - 1) c.args.call c.args.key c.in-Done.answered between c.turn.new.pass.view)
     c.loop-losses.invariant.same.calls c.in-Done.ensures.answer)
+    c.in-Done.ensures.steps
 
 -- it was refused
 pub returns-in-Full-clause-answer : goal.returns-in-Full-clause-answer
@@ -28,6 +29,7 @@ returns-in-Full-clause-answer c =
     then_full c.args.call c.args.key c.loop-losses.losses c.args.pass.now.view c.loop-losses.pass.view c.loop-losses.invariant.lost
     c.args.round.now.plan.fast c.turn.new.pass.view
     (subst (λ (plan : Plan). c.loop-losses.losses < plan.fast) c.plan-losses-end.ensures c.loop-losses-test.true) c.in-Full.ensures.answer
+    c.in-Full.ensures.steps
 
 -- it was lost, as all before it
 pub loop-losses-preserved : goal.loop-losses-preserved
@@ -36,5 +38,5 @@ loop-losses-preserved c =
     record {
       same = same;
       lost = then_lost c.args.call c.args.key c.loop-losses.losses c.args.pass.now.view c.loop-losses.pass.view
-          c.loop-losses.invariant.lost c.turn.new.pass.view c.in-Lost.ensures.answer;
+          c.loop-losses.invariant.lost c.turn.new.pass.view c.in-Lost.ensures.answer c.in-Lost.ensures.steps;
     }

@@ -1,5 +1,5 @@
 use Rattle.cells.specs.Tokens.{IsSamePass}
-use Rattle.hash_set.specs.Calls.{LosesTurns}
+use Rattle.hash_set.proofs.laws.Trying.{LosesTurns}
 use Rattle.hash_set.proofs.writing.change.Given as goal
 
 -- all turns so far were lost

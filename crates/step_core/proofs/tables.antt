@@ -2,9 +2,13 @@ pub mod Begins
 pub mod Buckets
 pub mod OneExponent
 pub mod Live
+pub mod LiveCount
 pub mod Opened
 pub mod Written
 pub mod Owned
+pub mod Parts
+pub mod Passes
+pub mod LoopParts
 pub mod Plain
 pub mod Blocks
 pub mod Fitting

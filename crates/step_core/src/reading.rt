@@ -1,4 +1,4 @@
-ghost use Rattle.std.specs.Prelude.{◌≡◌, ◌≤◌, ◌<◌, ◌^◌, IfOk};
+ghost use Rattle.std.specs.Prelude.{◌≡◌, ◌≤◌, ◌<◌, ◌^◌, length, IfOk};
 ghost use Rattle.std.specs.List.Sorted.{IsStrictlyIncreasing};
 ghost use Rattle.set_model.specs.Keys.{keys_set};
 ghost use Rattle.step_core.specs.Content.{HasMembers, exponent_of, row_keys};
@@ -31,11 +31,27 @@ fn collected(alloc: Global, words: &Words) -> Result<Vec<u64>, NoMemory>
     requires plain { HasPlainRows words.now }
     ensures { IfOk result (λ keys. keys.items ≡ keys_before words.now (2 ^ exponent_of words.now)) }
 {
-    let mut keys = Vec::new(alloc);
-    for bucket in 0..bucket_count(exponent_of(words)) {
+    let buckets = bucket_count(exponent_of(words));
+    let mut keys = Vec::with_capacity(alloc, key_count(words) as usize)?;
+    for bucket in 0..buckets {
         keys.extend_from_slice(keys_of_bucket(words, bucket))?;
     }
     Ok(keys)
+}
+
+// The number of the members.
+fn key_count(words: &Words) -> u64
+    requires well_formed { IsWellFormed words.now }
+    requires plain { HasPlainRows words.now }
+    ensures { result ≡ length (keys_before words.now (2 ^ exponent_of words.now)) }
+{
+    // With the words' number read, that of their keys is known to fit 64 bits.
+    let _len = words.len();
+    let mut count = 0;
+    for bucket in 0..bucket_count(exponent_of(words)) {
+        count += keys_of_bucket(words, bucket).len() as u64;
+    }
+    count
 }
 
 /// The exponent of the head generation.

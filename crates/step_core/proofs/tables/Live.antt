@@ -137,7 +137,7 @@ module _ (words : List ℕ) (well : IsWellFormed words) (plain : HasPlainRows wo
       (bucket_row words count)) row.class)
 
   -- they differ
-  collected_distinct : (count : ℕ) → count ≤ 2 ^ exponent → IsDistinct nat_eq (keys_before words count)
+  pub collected_distinct : (count : ℕ) → count ≤ 2 ^ exponent → IsDistinct nat_eq (keys_before words count)
   unfolding keys_before
   collected_distinct zero le = distinct-rising [] (λ k lt. absurd (omega arith))
   collected_distinct (suc count) le =

@@ -4,7 +4,7 @@ use Rattle.std.proofs.Common.{◌≡◌, ℕ, zero, suc, ◌+◌, ◌*◌, ◌^�
 use Rattle.std.specs.List.{range_with_len}
 use Rattle.std.proofs.lemmas.List.{append-nil}
 use Rattle.std.proofs.lemmas.List.FromFn.{map-range_with_len_more}
-use Rattle.step_core.specs.Buckets.{class_keys, IsBucketStart}
+use Rattle.step_core.specs.Buckets.{key_bucket, class_keys, IsBucketStart}
 use Rattle.step_core.specs.Format.{mutable_word, row_words}
 use Rattle.step_core.specs.Openings.{rows_of, row_start, generation_words}
 use Rattle.step_core.specs.declared.format.TheConstants.{FIRST_BUCKET, FIRST_KEY}
@@ -18,15 +18,15 @@ rows_of-more exponent keys bucket = ap (rows_of exponent keys) (add-one bucket)
 
 -- so many words and the keys of lower buckets
 pub length-rows_of : (exponent : ℕ) (keys : List ℕ) (bucket : ℕ)
-    → length (rows_of exponent keys bucket) ≡ FIRST_KEY * bucket + length (lower_keys exponent bucket keys)
+    → length (rows_of exponent keys bucket) ≡ FIRST_KEY * bucket + length (lower_keys (key_bucket exponent) bucket keys)
 unfolding rows_of
-length-rows_of exponent keys zero = omega (arith, lower_keys-none exponent keys)
+length-rows_of exponent keys zero = omega (arith, lower_keys-none (key_bucket exponent) keys)
 length-rows_of exponent keys (suc bucket) =
     let class = class_keys exponent bucket keys in
-    let same : length (lower_keys exponent (suc bucket) keys) ≡ length (lower_keys exponent (bucket + 1) keys) =
-    ap (λ (n : ℕ). length (lower_keys exponent n keys)) (sym (add-one bucket)) in
+    let same : length (lower_keys (key_bucket exponent) (suc bucket) keys) ≡ length (lower_keys (key_bucket exponent) (bucket + 1) keys) =
+    ap (λ (n : ℕ). length (lower_keys (key_bucket exponent) n keys)) (sym (add-one bucket)) in
     length-append (rows_of exponent keys bucket) (row_words class)
-    ∙ omega (arith, length-rows_of exponent keys bucket, same, length-lower_keys exponent bucket keys)
+    ∙ omega (arith, length-rows_of exponent keys bucket, same, length-lower_keys (key_bucket exponent) bucket keys)
 
 -- all rows have three words each and the keys
 pub length-rows_of-all : (exponent : ℕ) (keys : List ℕ)

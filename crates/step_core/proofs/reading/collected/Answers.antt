@@ -3,7 +3,7 @@ use Rattle.step_core.proofs.tables.Live.{keys_before-none, keys_before-more}
 use Rattle.step_core.proofs.reading.collected.Goals as goal
 
 pub loop-bucket-init : goal.loop-bucket-init
-loop-bucket-init c = c.new-keys.ensures.items ∙ sym (keys_before-none c.args.words.now)
+loop-bucket-init c = c.in_ok-keys.ensures.items ∙ sym (keys_before-none c.args.words.now)
 
 pub loop-bucket-preserved : goal.loop-bucket-preserved
 loop-bucket-preserved c =

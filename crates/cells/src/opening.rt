@@ -32,6 +32,8 @@ impl Round {
             words: Snapshot::of(&words),
         };
         let (table, seat) = RoundTable::of_words(alloc, words.as_slice(), &setup)?;
+        // The table has its copy.
+        drop(words);
         let round = Round {
             table,
             layout,

@@ -14,7 +14,6 @@ use std::alloc::Global;
 use std::test::Fail;
 use step_core::{Layout, MAX_CALLS, Words, opening, opening_words};
 
-mod calling;
 mod rows;
 mod threads;
 

@@ -1,22 +1,16 @@
 // The caller that docs/CALLING.md shows.
 use super::*;
-use step_core::live_keys;
 
-// A round of two passes from its opening to its end: what the second finds of what the first inserts,
+// A round of two passes from its start to its end: what the second finds of what the first inserts,
 // and the keys that are left.
-fn first_inserts_second_finds(alloc: Global) -> Result<(bool, Vec<u64>), NoMemory> {
+fn first_inserts_second_finds(alloc: Global) -> Result<(bool, Vec<u64>), OpenFault> {
     let plan = Plan {
         seats: 2,
         fast: 4,
         turns: 0,
         room: 100,
     };
-    let layout = Layout {
-        seats: 2,
-        cap: opening_words(2, &[]) + plan.room,
-    };
-    let words = opening(alloc, &layout, &[])?;
-    let (round, mut passes) = Round::from_words(alloc, words, layout, plan)?;
+    let (round, mut passes) = start_round(alloc, &[], plan)?;
     let (Some(mut second), Some(mut first)) = (passes.pop(), passes.pop()) else {
         unreachable!()
     };
@@ -28,10 +22,13 @@ fn first_inserts_second_finds(alloc: Global) -> Result<(bool, Vec<u64>), NoMemor
 
     passes.push(first)?;
     passes.push(second)?;
-    match round.into_words(alloc, passes) {
-        Ok((words, _history)) => Ok((found, live_keys(alloc, &words)?)),
-        Err((refused, _round, _passes)) => Err(refused),
-    }
+    let Ok(halted) = halt_round(alloc, round, passes) else {
+        return Err(OpenFault::NoMemory);
+    };
+    let Ok(closing) = end_round(alloc, halted) else {
+        return Err(OpenFault::NoMemory);
+    };
+    Ok((found, Vec::from_slice(alloc, closing.keys())?))
 }
 
 #[test]

@@ -1,0 +1,6 @@
+use Rattle.std.proofs.Common.{ℕ, ◌+◌, ◌<◌, slice_index}
+use Rattle.rounds.proofs.tests.large.rise.Given as goal
+
+-- the keys rise up to the place
+abbrev pub invariant-loop-place : goal.invariant-loop-place
+invariant-loop-place l = (k : ℕ) → k + 1 < l.place → slice_index l.keys k < slice_index l.keys (k + 1)

@@ -1,0 +1,4 @@
+pub mod Starts
+pub mod Halts
+pub mod Closings
+pub mod Modeled

@@ -8,7 +8,7 @@ use Rattle.set_model.specs.declared.entry.Entry.{Entry}
 use Rattle.step_core.specs.Content.{exponent_of}
 use Rattle.step_core.specs.declared.views.RoundFacts.{RoundFacts}
 use Rattle.cells.specs.Past.{IsInOrder, IsOfPasses, entries_by}
-use Rattle.cells.specs.Tokens.{HasBegunCalls, PassValue}
+use Rattle.cells.specs.Tokens.{HasBegunCalls, IsPassOf, PassValue}
 use Rattle.rounds.specs.Halts.{AreNumbered, HaltedValue}
 
 -- what a pass did in its round: the calls that it began, the NEXT that its draw past the end found,
@@ -82,7 +82,8 @@ pub record Closes (halted : HaltedValue) (closing : ClosingValue) : Type 0 where
   pub rising : IsStrictlyIncreasing closing.keys
   pub keys : keys_set closing.keys ≡ set_after (keys_set halted.round.facts.keys) closing.front
   pub exponent : closing.exponent ≡ exponent_of halted.words
-  -- each pass has its account at its number
+  -- the passes are the round's, and each has its account at its number
+  pub ours : All (IsPassOf halted.round) halted.passes
   pub numbered : AreNumbered halted.round halted.passes
   pub accounts : closing.accounts ≡ map account_of halted.passes
   pub count : length closing.accounts ≡ halted.round.facts.seats

@@ -16,7 +16,7 @@ use Rattle.step_core.specs.declared.views.PassView.{PassView}
 use Rattle.step_core.specs.declared.views.RoundFacts.{RoundFacts}
 use Rattle.cells.specs.Ends.{EndsRound, HasView}
 use Rattle.cells.specs.Past.{flying_entry}
-use Rattle.cells.specs.Tokens.{HasBegunCalls, PassValue}
+use Rattle.cells.specs.Tokens.{HasBegunCalls, IsPassOf, PassValue}
 use Rattle.rounds.specs.Closings.{AccountValue, Closes, HasPartOf, IsPaidFor, IsWholeHistory, account_of, all_drawn, all_won}
 use Rattle.rounds.specs.Halts.{AreAtRest, AreNumbered, HaltedValue}
 use Rattle.rounds.proofs.laws.Halting.{numbered_count}
@@ -89,7 +89,7 @@ module _ (facts : RoundFacts) (passes : List PassValue) (words : List ℕ) (hist
 -- With the keys that the words hold, and their exponent and NEXT, it is how the halted round ends.
 pub closes : (halted : HaltedValue) (keys : List ℕ) (exponent next : ℕ)
     → EndsRound halted.round.facts halted.passes halted.words halted.front
-    → AreNumbered halted.round halted.passes
+    → All (IsPassOf halted.round) halted.passes → AreNumbered halted.round halted.passes
     → AreAtRest halted.passes
     → HasMembers halted.words (keys_set keys) → IsStrictlyIncreasing keys
     → exponent ≡ exponent_of halted.words → next ≡ next_of halted.words
@@ -100,7 +100,7 @@ pub closes : (halted : HaltedValue) (keys : List ℕ) (exponent next : ℕ)
       front = halted.front;
       accounts = map account_of halted.passes;
     })
-closes halted keys exponent next ends numbered idle members rising is_exponent is_next =
+closes halted keys exponent next ends ours numbered idle members rising is_exponent is_next =
     let facts = halted.round.facts in
     record {
       front = refl;
@@ -109,6 +109,7 @@ closes halted keys exponent next ends numbered idle members rising is_exponent i
       keys = closing_keys facts halted.passes halted.words halted.front ends idle keys members;
       exponent = is_exponent;
       accounts = refl;
+      ours = ours;
       numbered = numbered;
       count = length-map halted.passes account_of ∙ numbered_count halted.round halted.passes numbered;
       next = is_next ∙ closing_next facts halted.passes halted.words halted.front ends idle;

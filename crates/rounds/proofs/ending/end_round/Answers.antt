@@ -16,5 +16,6 @@ returns-clause-answer c =
       accounts = map account_of inside.accounts.items;
     } in
     subst (λ (halted : HaltedValue). Closes halted closing) c.halted.view_is
-    (closes (halted_value inside) closing.keys closing.exponent closing.next c.halted.invariant.ends c.halted.invariant.numbered
+    (closes (halted_value inside) closing.keys closing.exponent closing.next c.halted.invariant.ends c.halted.invariant.all.ours
+    c.halted.invariant.numbered
     c.halted.invariant.at_rest c.in-Ok.ensures.members c.in-Ok.ensures.rising c.exponent_of-exponent.ensures.exponent c.word-next.ensures)

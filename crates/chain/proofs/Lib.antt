@@ -1,0 +1,12 @@
+pub mod Pushing
+pub mod Inserting
+pub mod Begun
+pub mod Recorded
+pub mod Answered
+pub mod Once
+pub mod Making
+pub mod Filtering
+pub mod Refusing
+pub mod Working
+pub mod Rounding
+pub mod ByWorkers

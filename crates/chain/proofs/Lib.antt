@@ -10,3 +10,4 @@ pub mod Refusing
 pub mod Working
 pub mod Rounding
 pub mod ByWorkers
+pub mod Changed

@@ -62,7 +62,7 @@ module _ (asked : List Asked) (turns : ℕ) (halted : HaltedValue) (closing : Cl
 module _ {asked : List Asked} {turns : ℕ} {halted : HaltedValue} {closing : ClosingValue} {hands : List HandedIn}
     {changed : List (List ℕ)} {who : ℕ} (at : IsAtWork asked turns halted closing hands changed who) where
   -- its entries in the history are its pass's own
-  own : entries_by who closing.front ≡ (pass_at halted who).view.mine
+  pub own : entries_by who closing.front ≡ (pass_at halted who).view.mine
   own = ap (λ number. entries_by number closing.front) (sym at.number) ∙ at.part.own
 
   -- what holds with each of these

@@ -56,6 +56,7 @@ pub record HandedIn : Type 0 where
 pub record HaveWorked (asked : List Asked) (turns : ℕ) (halted : HaltedValue)
     (hands : List HandedIn) (changed : List (List ℕ)) : Type 0 where
   pub count : length hands ≡ length halted.passes
+  pub lists : length changed ≡ length hands
   pub each : (k : ℕ) (hand : HandedIn) (numbers : List ℕ) (pass : PassValue) → k < length hands
       → HasMade asked turns (slice_index_or hands k hand).made (slice_index_or changed k numbers)
       (slice_index_or hands k hand).refused (slice_index_or halted.passes k pass)

@@ -6,7 +6,7 @@ use Rattle.std.proofs.lemmas.List.Elements.{All-head, All-tail}
 use Rattle.set_model.specs.History.{members_after}
 use Rattle.set_model.specs.Keys.{is_in}
 use Rattle.set_model.proofs.LawHistory.{members_after-append}
-use Rattle.chain.specs.Chain.{AllFrom, AnswersAll, Asked, IsEntryOf, IsOfRecord, RoundEnd, WasReading, asked_at, begun_in, chain_of, changes_nothing, entries_of, number_of_entry, numbers_by, numbers_in}
+use Rattle.chain.specs.Chain.{AllFrom, AnswersEachCall, Asked, IsEntryOf, IsOfRecord, RoundEnd, WasReading, asked_at, begun_in, chain_of, changes_nothing, entries_of, number_of_entry, numbers_by, numbers_in}
 use Rattle.chain.proofs.Begun.{WasBegun-is_in, is_in-append_cases}
 use Rattle.chain.proofs.Inserting.{inserts_add, inserts_keep, inserts_keep_from}
 use Rattle.chain.proofs.Recorded.{AskInserts, IsRecorded, asks_insert, chain_inserts, entries_insert, entry_keys-place}
@@ -41,7 +41,7 @@ module _ (asked : List Asked) (inserts : AskInserts asked) (members : ℕ → Bo
       (subst (λ es. members_after members es key ≡ true) (sym cut) there)
 
   -- a record whose call was begun in the round
-  round_adds : (number : ℕ) → AnswersAll asked members round → is_in (numbers_in round.made) number ≡ true
+  round_adds : (number : ℕ) → AnswersEachCall asked members round → is_in (numbers_in round.made) number ≡ true
       → members_after members (entries_of round) (asked_at asked number).key ≡ true
   round_adds number answered here =
       let call = WasBegun-is_in round.made number here in
@@ -56,7 +56,7 @@ module _ (asked : List Asked) (inserts : AskInserts asked) (members : ℕ → Bo
 module _ (asked : List Asked) (inserts : AskInserts asked) where
   -- a record whose call was begun in any round
   pub chain_adds : (members : ℕ → Bool) (rounds : List RoundEnd) (number : ℕ) → All (IsRecorded asked) rounds
-      → AllFrom (AnswersAll asked) members rounds → is_in (begun_in rounds) number ≡ true
+      → AllFrom (AnswersEachCall asked) members rounds → is_in (begun_in rounds) number ≡ true
       → members_after members (chain_of rounds) (asked_at asked number).key ≡ true
   chain_adds members [] number recorded answered here = absurd cc
   chain_adds members (round ∷ rounds) number recorded answered here =

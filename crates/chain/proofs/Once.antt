@@ -11,11 +11,11 @@ use Rattle.set_model.specs.History.{members_after}
 use Rattle.set_model.specs.Keys.{is_in, keys_set}
 use Rattle.set_model.specs.declared.call.Call.TheVariants.{Insert}
 use Rattle.chain.specs.Chain.{Asked, IsRunChain, RoundEnd, asked_at, chain_of, no_call, no_key}
-use Rattle.chain.specs.Changing.{HaveEachKeyOnce, changing_of, keys_asked, keys_at}
+use Rattle.chain.specs.Changing.{HaveEachKeyOnce, changing_of, keys_asked, keys_of_numbers}
 use Rattle.chain.proofs.Answered.{chain_adds}
 use Rattle.chain.proofs.Begun.{below-begun_in, is_in-begun_in, place_of-is_in}
 use Rattle.chain.proofs.Inserting.{changing_keys-differ, members_after-changing, members_after-inserts}
-use Rattle.chain.proofs.Recorded.{chain_asks, chain_inserts, keys_at-changing_of}
+use Rattle.chain.proofs.Recorded.{chain_asks, chain_inserts, keys_of_numbers-changing_of}
 
 same_answer : (one other : Bool) → (one ≡ true → other ≡ true) → (other ≡ true → one ≡ true) → one ≡ other
 same_answer true other there back = sym (there refl)
@@ -64,12 +64,12 @@ pub inserts_once : (asked : List Asked) (turns : ℕ) (rounds : List RoundEnd) �
     → All (λ call. call.call ≡ Insert) asked → HaveEachKeyOnce asked (changing_of rounds)
 inserts_once asked turns rounds chain inserts =
     let all = chain_inserts asked rounds inserts chain.recorded in
-    let keys = keys_at-changing_of asked rounds chain.recorded in
+    let keys = keys_of_numbers-changing_of asked rounds chain.recorded in
     record {
       differ = subst (IsDistinct nat_eq) (sym keys) (changing_keys-differ no_key (chain_of rounds) all chain.legal);
-      same = set.same_set nat_cmp_total set.nat_cmp-IsAntisymmetric (keys_set (keys_at asked (changing_of rounds)))
+      same = set.same_set nat_cmp_total set.nat_cmp-IsAntisymmetric (keys_set (keys_of_numbers asked (changing_of rounds)))
           (keys_set (keys_asked asked)) (λ key.
-          set.contains-from_list_nat (keys_at asked (changing_of rounds)) key
+          set.contains-from_list_nat (keys_of_numbers asked (changing_of rounds)) key
           ∙ ap (λ ks. is_in ks key) keys
           ∙ sym (members_after-changing no_key (chain_of rounds) key all chain.legal)
           ∙ inserts_members asked turns rounds chain inserts key

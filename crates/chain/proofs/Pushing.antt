@@ -8,7 +8,7 @@ use Rattle.std.proofs.lemmas.List.Elements.{All-nil, All-head, All-tail, All-pus
 use Rattle.std.proofs.lemmas.List.Sorted.{IsPermutation-refl, IsPermutation-sym, IsPermutation-trans, IsPermutation-append_right}
 use Rattle.set_model.specs.History.{IsLegal, members_after}
 use Rattle.set_model.proofs.LawHistory.{members_after-append, IsLegal-append}
-use Rattle.chain.specs.Chain.{Asked, RoundEnd, AllFrom, AnswersAll, CountsCalls, HasKeysAfter, HasOrder, IsRunChain, IsOfRecord, IsRunRound, SettlesLast, ShowCauses, begun_in, chain_of, entries_of, no_key, numbers_in}
+use Rattle.chain.specs.Chain.{Asked, RoundEnd, AllFrom, AnswersEachCall, CountsCalls, HasKeysAfter, HasOrder, IsRunChain, IsOfRecord, IsRunRound, SettlesLast, ShowCauses, begun_in, chain_of, entries_of, no_key, numbers_in}
 
 -- what one element more adds to a list of lists put together
 flat_map-push : {X A : Type 0} (parts : X → List A) (items : List X) (item : X)
@@ -81,14 +81,14 @@ chain_push asked turns rounds left rest round chain is taken = record {
   keys = AllFrom-push HasKeysAfter no_key rounds round chain.keys is.keys;
   last = All-push SettlesLast rounds round chain.last is.last;
   shown = All-push (ShowCauses turns) rounds round chain.shown is.shown;
-  answered = AllFrom-push (AnswersAll asked) no_key rounds round chain.answered is.answered;
+  answered = AllFrom-push (AnswersEachCall asked) no_key rounds round chain.answered is.answered;
 }
 
 -- the parts of a chain, from any members on, are those of its rounds
 rounds_from : (asked : List Asked) (turns : ℕ) (members : ℕ → Bool) (rounds : List RoundEnd) → IsLegal members (chain_of rounds)
     → All (λ round. All (IsOfRecord asked round.made) (entries_of round)) rounds → All HasOrder rounds → All CountsCalls rounds
     → AllFrom HasKeysAfter members rounds → All SettlesLast rounds → All (ShowCauses turns) rounds
-    → AllFrom (AnswersAll asked) members rounds → AllFrom (IsRunRound asked turns) members rounds
+    → AllFrom (AnswersEachCall asked) members rounds → AllFrom (IsRunRound asked turns) members rounds
 rounds_from asked turns members [] legal recorded order counted keys last shown answered = tt
 rounds_from asked turns members (round ∷ rounds) legal recorded order counted keys last shown answered =
     let Recorded : RoundEnd → Type 0 = λ round. All (IsOfRecord asked round.made) (entries_of round) in

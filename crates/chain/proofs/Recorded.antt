@@ -10,7 +10,7 @@ use Rattle.set_model.specs.Keys.{is_in}
 use Rattle.set_model.specs.declared.call.Call.TheVariants.{Insert}
 use Rattle.set_model.specs.declared.entry.Entry.{Entry}
 use Rattle.chain.specs.Chain.{Asked, IsOfRecord, RoundEnd, asked_at, begun_in, chain_of, entries_of, number_of_entry, numbers_in}
-use Rattle.chain.specs.Changing.{changing_in, changing_of, is_changing, keys_at}
+use Rattle.chain.specs.Changing.{changing_in, changing_of, is_changing, keys_of_numbers}
 use Rattle.chain.proofs.Begun.{is_in-append_cases, is_in-append_left, is_in-append_right, is_in-begun}
 use Rattle.chain.proofs.Inserting.{IsInsert, changing_keys, entry_keys}
 
@@ -28,22 +28,22 @@ pub record HasNumberOf (asked : List Asked) (numbers : List ℕ) (key : ℕ) : T
   pub within : is_in numbers number ≡ true
   pub asks : (asked_at asked number).key ≡ key
 
-keys_at-entries : (asked : List Asked) (made : List (List ℕ)) (entries : List Entry) → All (IsOfRecord asked made) entries
-    → keys_at asked (map (number_of_entry made) entries) ≡ entry_keys entries
-keys_at-entries asked made [] all = refl
-keys_at-entries asked made (entry ∷ rest) all =
+keys_of_numbers-entries : (asked : List Asked) (made : List (List ℕ)) (entries : List Entry) → All (IsOfRecord asked made) entries
+    → keys_of_numbers asked (map (number_of_entry made) entries) ≡ entry_keys entries
+keys_of_numbers-entries asked made [] all = refl
+keys_of_numbers-entries asked made (entry ∷ rest) all =
     ap₂ ◌∷◌ (sym (All-head (IsOfRecord asked made) entry rest all).key)
-    (keys_at-entries asked made rest (All-tail (IsOfRecord asked made) entry rest all))
+    (keys_of_numbers-entries asked made rest (All-tail (IsOfRecord asked made) entry rest all))
 
 -- the keys of the changing records are those of the changing entries
-pub keys_at-changing_of : (asked : List Asked) (rounds : List RoundEnd) → All (IsRecorded asked) rounds
-    → keys_at asked (changing_of rounds) ≡ changing_keys (chain_of rounds)
-keys_at-changing_of asked [] recorded = refl
-keys_at-changing_of asked (round ∷ rounds) recorded =
+pub keys_of_numbers-changing_of : (asked : List Asked) (rounds : List RoundEnd) → All (IsRecorded asked) rounds
+    → keys_of_numbers asked (changing_of rounds) ≡ changing_keys (chain_of rounds)
+keys_of_numbers-changing_of asked [] recorded = refl
+keys_of_numbers-changing_of asked (round ∷ rounds) recorded =
     let here = All-head (IsRecorded asked) round rounds recorded in
-    let later = keys_at-changing_of asked rounds (All-tail (IsRecorded asked) round rounds recorded) in
+    let later = keys_of_numbers-changing_of asked rounds (All-tail (IsRecorded asked) round rounds recorded) in
     map-append (λ number. (asked_at asked number).key) (changing_in round) (changing_of rounds)
-    ∙ ap₂ ◌++◌ (keys_at-entries asked round.made (filter is_changing (entries_of round))
+    ∙ ap₂ ◌++◌ (keys_of_numbers-entries asked round.made (filter is_changing (entries_of round))
     (All-filter is_changing (IsOfRecord asked round.made) (entries_of round) here)) later
     ∙ sym (map-append (λ entry. entry.key) (filter is_changing (entries_of round)) (filter is_changing (chain_of rounds)))
     ∙ ap entry_keys (sym (filter-append is_changing (entries_of round) (chain_of rounds)))

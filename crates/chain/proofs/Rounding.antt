@@ -12,7 +12,7 @@ use Rattle.set_model.proofs.LawHistory.{IsLegal-append, sets_and_tests_agree}
 use Rattle.cells.specs.Past.{IsInOrder, IsOfPasses, entries_by}
 use Rattle.rounds.specs.Closings.{AccountValue, Closes, ClosingValue, no_account}
 use Rattle.rounds.specs.Halts.{HaltedValue}
-use Rattle.chain.specs.Chain.{AnswersAll, Asked, IsEntryOf, IsOfRecord, IsRunRound, RoundEnd, SettlesLast, ShowCauses, ShowsCause, WasReading, asked_at, number_of_entry}
+use Rattle.chain.specs.Chain.{AnswersEachCall, Asked, IsEntryOf, IsOfRecord, IsRunRound, RoundEnd, SettlesLast, ShowCauses, ShowsCause, WasReading, asked_at, number_of_entry}
 use Rattle.chain.specs.Workers.{HaveWorked, AreSettled, HandedIn, RefusedCall, call_answered}
 use Rattle.chain.proofs.Filtering.{Any-append_left, Any-append_right, Any-weaker, answered_or_last}
 use Rattle.chain.proofs.Working.{IsAtWork, all_made, answered_in, at_work, in_order, its_own, no_entry_of, workers}
@@ -163,7 +163,7 @@ module _ (asked : List Asked) (turns : ℕ) (halted : HaltedValue) (closing : Cl
     in_front who serial numbers (inr was) = inr was
 
     -- so it is with each call that a worker began
-    answered : AnswersAll asked (is_in halted.round.facts.keys) round
+    answered : AnswersEachCall asked (is_in halted.round.facts.keys) round
     answered who serial begun =
         let hand = hand_at hands who in
         let worker : who < length hands = omega (arith, begun.worker, length-map hands (λ (hand : HandedIn). hand.made)) in

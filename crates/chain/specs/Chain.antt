@@ -95,8 +95,8 @@ pub record WasReading (members : ℕ → Bool) (front : List Entry) (call : Aske
   pub reading : changes_nothing call.call (members_after members (take place front) call.key) ≡ true
 
 -- each call that a worker began has its entry in the round's part of the chain, or was a reading
-abbrev pub AnswersAll : List Asked → (ℕ → Bool) → RoundEnd → Type 0
-AnswersAll asked members round = (who serial : ℕ) → HasBegunCall round.made who serial
+abbrev pub AnswersEachCall : List Asked → (ℕ → Bool) → RoundEnd → Type 0
+AnswersEachCall asked members round = (who serial : ℕ) → HasBegunCall round.made who serial
     → Any (IsEntryOf who serial) (entries_of round)
     ⊎ WasReading members round.closing.front
     (asked_at asked (slice_index (numbers_by round.made who) serial))
@@ -151,7 +151,7 @@ pub record IsRunChain (asked : List Asked) (turns : ℕ) (rounds : List RoundEnd
   pub last : All SettlesLast rounds
   pub shown : All (ShowCauses turns) rounds
   -- and every call was answered
-  pub answered : AllFrom (AnswersAll asked) no_key rounds
+  pub answered : AllFrom (AnswersEachCall asked) no_key rounds
 
 -- the same of one round, behind a chain that leaves these members
 pub record IsRunRound (asked : List Asked) (turns : ℕ) (members : ℕ → Bool) (round : RoundEnd)
@@ -163,4 +163,4 @@ pub record IsRunRound (asked : List Asked) (turns : ℕ) (members : ℕ → Bool
   pub keys : HasKeysAfter members round
   pub last : SettlesLast round
   pub shown : ShowCauses turns round
-  pub answered : AnswersAll asked members round
+  pub answered : AnswersEachCall asked members round

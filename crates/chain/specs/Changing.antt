@@ -26,8 +26,8 @@ abbrev pub changing_of : List RoundEnd → List ℕ
 changing_of rounds = flat_map changing_in rounds
 
 -- the keys that the records with these numbers ask for
-abbrev pub keys_at : List Asked → List ℕ → List ℕ
-keys_at asked numbers = map (λ number. (asked_at asked number).key) numbers
+abbrev pub keys_of_numbers : List Asked → List ℕ → List ℕ
+keys_of_numbers asked numbers = map (λ number. (asked_at asked number).key) numbers
 
 -- the keys that all records ask for
 abbrev pub keys_asked : List Asked → List ℕ
@@ -35,5 +35,5 @@ keys_asked asked = map (λ call. call.key) asked
 
 -- these records have each key that is asked for once
 pub record HaveEachKeyOnce (asked : List Asked) (numbers : List ℕ) : Type 0 where
-  pub differ : IsDistinct nat_eq (keys_at asked numbers)
-  pub same : keys_set (keys_at asked numbers) ≡ keys_set (keys_asked asked)
+  pub differ : IsDistinct nat_eq (keys_of_numbers asked numbers)
+  pub same : keys_set (keys_of_numbers asked numbers) ≡ keys_set (keys_asked asked)

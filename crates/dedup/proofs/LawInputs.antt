@@ -8,10 +8,10 @@ use Rattle.std.proofs.Math.Seq.{get_or-append_seam, take-append_seam}
 use Rattle.outside.specs.Files.{Files, bytes_of}
 use Rattle.idfiles.specs.Lines.{records_of, first_fault}
 use Rattle.idfiles.specs.declared.id_record.IdRecord.{IdRecord}
-use Rattle.idfiles.specs.Answer.{Answers, AnswersFile, IsFineBefore}
+use Rattle.idfiles.specs.Answer.{AnswersFile, IsFineBefore, Refuses}
 use Rattle.idfiles.specs.declared.fault.IdFault.{IdFault}
 use Rattle.idfiles.specs.declared.fault.IdFault.TheVariants.{NoMemory, BadLine, ReadFault, TooLong, TooMany}
-use Rattle.dedup.specs.Inputs.{AnswersAll, AnswersFiles, AreContents, HasLoaded, SaysOf, fault_of_files, records_of_files, run_fault, run_records}
+use Rattle.dedup.specs.Inputs.{AnswersFiles, AreContents, HasLoaded, SaysOf, fault_of_files, records_of_files, run_fault, run_records}
 use Rattle.dedup.specs.Limits.{most_records}
 
 -- the records of files one after the other
@@ -105,12 +105,12 @@ HasLoaded-none told names = record {
 }
 
 -- one file more was read
-pub HasLoaded-more : (told : Option Files) (names : List (List ℕ)) (place : ℕ) (records more : List IdRecord) (bytes : List ℕ)
+pub HasLoaded-more : (told : Option Files) (names : List (List ℕ)) (place : ℕ) (records now : List IdRecord) (bytes : List ℕ)
     → HasLoaded told names place records → place < length names
     → IfSome (option_map (λ files. bytes_of files (get_or names place [])) told) (λ all. bytes ≡ all)
-    → first_fault (place + 1) (most_records - length records) bytes ≡ None → more ≡ records_of (place + 1) bytes
-    → length more ≤ most_records - length records → HasLoaded told names (place + 1) (records ++ more)
-HasLoaded-more told names place records more bytes so_far within is none all few =
+    → first_fault (place + 1) (most_records - length records) bytes ≡ None → now ≡ records ++ records_of (place + 1) bytes
+    → length now ≤ most_records → HasLoaded told names (place + 1) now
+HasLoaded-more told names place records now bytes so_far within is none all few =
     let name : List ℕ = get_or names place [] in
     let longer : take (place + 1) names ≡ take place names ++ name ∷ [] = take_more names place [] within in
     let long : length so_far.contents ≡ place = so_far.are.each ∙ length-take-le place names (omega arith) in
@@ -120,11 +120,11 @@ HasLoaded-more told names place records more bytes so_far within is none all few
       are = subst (λ front. AreContents told front (so_far.contents ++ bytes ∷ [])) (sym longer)
           (are-more told (take place names) [] so_far.contents name bytes so_far.are is);
       none = fault-behind so_far.contents [] place records bytes None long so_far.none so_far.all none;
-      all = (λ i. so_far.all i ++ all i)
+      all = all ∙ ap (λ (rs : List IdRecord). rs ++ records_of (place + 1) bytes) so_far.all
           ∙ ap (λ r. run_records so_far.contents ++ r) (sym (append-nil (records_of (place + 1) bytes)))
           ∙ ap (λ n. run_records so_far.contents ++ records_of_files n (bytes ∷ [])) number
           ∙ sym (records_of_files-append so_far.contents (bytes ∷ []) 1);
-      few = omega (arith, so_far.few, few, length-append records more);
+      few = few;
     }
 
 -- the contents of all files, where one more than was read is known
@@ -151,7 +151,7 @@ AnswersFiles-all told names left place records so_far end =
 -- how a file was refused
 refused : (told : Option Files) (names : List (List ℕ)) (left : Option (List ℕ)) (place : ℕ) (records : List IdRecord) (fault : IdFault)
     → (so_far : HasLoaded told names place records) → place < length names → (bytes : List ℕ) → (rest : List (List ℕ))
-    → Answers (place + 1) (most_records - length records) bytes left (Err fault) → SaysOf (so_far.contents ++ bytes ∷ rest) left fault
+    → Refuses (place + 1) (most_records - length records) bytes left fault → SaysOf (so_far.contents ++ bytes ∷ rest) left fault
 refused told names left place records fault so_far within bytes rest is = go fault is where
   long : length so_far.contents ≡ place
   long = so_far.are.each ∙ length-take-le place names (omega (arith, within))
@@ -162,7 +162,7 @@ refused told names left place records fault so_far within bytes rest is = go fau
   first : (found : IdFault) → first_fault (place + 1) (most_records - length records) bytes ≡ Some found → run_fault whole ≡ Some found
   first found found_is = fault-behind so_far.contents rest place records bytes (Some found) long so_far.none so_far.all found_is
 
-  go : (fault : IdFault) → Answers (place + 1) (most_records - length records) bytes left (Err fault) → SaysOf whole left fault
+  go : (fault : IdFault) → Refuses (place + 1) (most_records - length records) bytes left fault → SaysOf whole left fault
   go NoMemory is = tt
   go (BadLine file line) is = first (BadLine file line) is
   go (TooLong file) is = first (TooLong file) is
@@ -186,11 +186,11 @@ refused told names left place records fault so_far within bytes rest is = go fau
       }
 
 -- a file was refused
-pub AnswersFiles-fault : (told : Option Files) (names : List (List ℕ)) (left : Option (List ℕ)) (place : ℕ) (records : List IdRecord)
-    (fault : IdFault) → HasLoaded told names place records → place < length names
-    → AnswersFile (place + 1) (most_records - length records) told (get_or names place []) left (Err fault)
+pub AnswersFiles-fault : {T : Type 0} (gives : T → List IdRecord → Type 0) (told : Option Files) (names : List (List ℕ))
+    (left : Option (List ℕ)) (place : ℕ) (records : List IdRecord) (fault : IdFault) → HasLoaded told names place records → place < length names
+    → AnswersFile (place + 1) (most_records - length records) told (get_or names place []) left (Err fault) gives
     → AnswersFiles told names left (Err fault)
-AnswersFiles-fault told names left place records fault so_far within answer = (
+AnswersFiles-fault gives told names left place records fault so_far within answer = (
   contents_with told names place so_far.contents answer.0,
   are-all told names place so_far.contents answer.0 within so_far.are answer.1,
   refused told names left place records fault so_far within answer.0 (map (content_in told) (drop (place + 1) names)) answer.2,
@@ -204,21 +204,13 @@ told_all (Some files) names = refl
 pub are-some : (told : Option Files) (names : List (List ℕ)) → AreContents told names (map (content_in told) names)
 are-some told names = record { each = length-map names (content_in told); same = told_all told names }
 
--- want of memory is an answer for any files
-pub AnswersFiles-no_memory : (told : Option Files) (names : List (List ℕ)) (left : Option (List ℕ))
-    (result : Result (Vec IdRecord Global) IdFault)
-    → result ≡ Err NoMemory → AnswersFiles told names left result
-AnswersFiles-no_memory told names left result is =
-    let contents = map (content_in told) names in
-    (contents, are-some told names, subst (AnswersAll contents left) (sym is) tt)
-
 -- what one file's reading answers, in the words of the files so far
 pub answer-here : (now told : Option Files) (refs : List (Bor (List ℕ))) (ref : Bor (List ℕ)) (left : Option (List ℕ)) (place count : ℕ)
-    (records : List IdRecord) (result : Result (Vec IdRecord Global) IdFault) → place < length refs
-    → AnswersFile (place + 1) (most_records - count) now (get_or refs place ref).now left result → now ≡ told → count ≡ length records
-    → AnswersFile (place + 1) (most_records - length records) told (get_or (map (λ name. name.now) refs) place []) left result
-answer-here now told refs ref left place count records result within answer same few =
-    subst (λ t. AnswersFile (place + 1) (most_records - length records) t (get_or (map (λ name. name.now) refs) place []) left result) same
-    (subst (λ n. AnswersFile (place + 1) (most_records - length records) now n left result)
+    (records : List IdRecord) {T : Type 0} (result : Result T IdFault) (gives : T → List IdRecord → Type 0) → place < length refs
+    → AnswersFile (place + 1) (most_records - count) now (get_or refs place ref).now left result gives → now ≡ told → count ≡ length records
+    → AnswersFile (place + 1) (most_records - length records) told (get_or (map (λ name. name.now) refs) place []) left result gives
+answer-here now told refs ref left place count records result gives within answer same few =
+    subst (λ t. AnswersFile (place + 1) (most_records - length records) t (get_or (map (λ name. name.now) refs) place []) left result gives) same
+    (subst (λ n. AnswersFile (place + 1) (most_records - length records) now n left result gives)
     (sym (get_or-map (λ name. name.now) refs place ref [] within))
-    (subst (λ r. AnswersFile (place + 1) (most_records - r) now (get_or refs place ref).now left result) few answer))
+    (subst (λ r. AnswersFile (place + 1) (most_records - r) now (get_or refs place ref).now left result gives) few answer))

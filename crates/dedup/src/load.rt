@@ -4,7 +4,7 @@ ghost use Rattle.idfiles.specs.Answer.{HasReadCause};
 ghost use Rattle.dedup.specs.Inputs.{AnswersFiles};
 ghost use Rattle.dedup.specs.Limits.{most_files, most_records};
 
-use idfiles::{IdFault, IdRecord, read_ids};
+use idfiles::{IdFault, IdRecord, append_ids};
 use outside::Inputs;
 use std::alloc::Global;
 
@@ -27,8 +27,7 @@ pub(crate) fn load<I: Inputs>(
     let mut records = Vec::new(alloc);
     for (place, name) in names.iter().enumerate() {
         let room = (MAX_RECORDS - records.len()) as u64;
-        let more = read_ids(alloc, inputs, name, place as u32 + 1, room)?;
-        records.extend_from_slice(&more)?;
+        append_ids(alloc, inputs, &mut records, name, place as u32 + 1, room)?;
     }
     Ok(records)
 }

@@ -1,10 +1,10 @@
 -- What the answer for a told file says of its records: how many they are, and that printed ids are read back.
-use Rattle.std.proofs.Common.{◌≡◌, ℕ, ◌+◌, ◌-◌, ◌<◌, ◌≤◌, inl, inr, Bool, true, false, ◌==◌, nat_le, List, [], ◌∷◌, length, refl, ap, ◌∙◌, subst, Option, None, Some, IfSome, IfOk, OnErr, Result, Ok, Err, is_err, Vec, vec_len, arith}
+use Rattle.std.proofs.Common.{◌≡◌, ℕ, ◌+◌, ◌-◌, ◌<◌, ◌≤◌, inl, inr, Bool, true, false, ◌==◌, nat_le, List, [], ◌∷◌, ◌++◌, length, length-append, refl, ap, ◌∙◌, Option, None, Some, IfOk, OnErr, Result, Ok, Err, is_err, Vec, vec_len, arith}
 use Rattle.std.proofs.lemmas.Bool.{cases_Bool}
 use Rattle.std.proofs.lemmas.Bool.Decides.{nat_tests}
 use Rattle.std.specs.Option.{option_or}
 use Rattle.std.specs.declared.alloc.Global.{Global}
-use Rattle.outside.specs.Files.{Files, Starts, bytes_of}
+use Rattle.outside.specs.Files.{Files}
 use Rattle.idfiles.specs.Answer.{Answers, AnswersTold, AnswersFile, GivesRecords, ReadsBack, numbered}
 use Rattle.idfiles.specs.Lines.{lines_of, records_from, records_of, line_fault, fault_within, first_fault}
 use Rattle.idfiles.specs.declared.fault.TheConstants.{MAX_BYTES}
@@ -15,27 +15,10 @@ use Rattle.idfiles.specs.declared.fault.IdFault.{IdFault}
 use Rattle.idfiles.specs.declared.fault.IdFault.TheVariants.{NoMemory, BadLine, ReadFault, TooLong, TooMany}
 use Rattle.idfiles.proofs.LawIds.{records_of-ids, fault_within-ids}
 
--- a start that didn't fail leaves the file's bytes to be read
-started : {T E : Type 0} (told : Option Files) (before now : Option (List ℕ)) (name : List ℕ) (start : Result T E) → is_err start ≡ false
-    → Starts told before now name start → IfSome told (λ files. now ≡ Some (bytes_of files name))
-started None before now name start fine h = tt
-started (Some files) before now name (Ok unit) fine h = h.content
-started (Some files) before now name (Err e) fine h = cc
-
 -- what holds of an error holds where there is one
 pub failed : {T E P : Type 0} (result : Result T E) → OnErr result P → is_err result ≡ true → P
 failed (Ok x) h is = cc
 failed (Err e) h is = h
-
--- the answer for what is left after the start is that for the file
-pub answers_file : {T E : Type 0} (file room : ℕ) (told : Option Files) (before now : Option (List ℕ)) (name : List ℕ) (start : Result T E)
-    (result : Result (Vec IdRecord Global) IdFault) → is_err start ≡ false → Starts told before now name start
-    → (left : Option (List ℕ)) → AnswersTold file room now left result
-    → AnswersFile file room told name left result
-answers_file file room told before now name start result fine h left answer = go told (started told before now name start fine h) where
-  go : (told : Option Files) → IfSome told (λ files. now ≡ Some (bytes_of files name)) → AnswersFile file room told name left result
-  go None is = (answer.0, tt, answer.2)
-  go (Some files) is = subst (λ bytes. AnswersTold file room bytes left result) is answer
 
 -- as many records as there is room for
 abbrev FewRecords : (file room number : ℕ) → List Line → Type 0
@@ -71,18 +54,26 @@ few_records_of limit file room bytes h = elim (cases_Bool (nat_le (length bytes)
 ]
 
 -- the records that are given are no more than there is room for
-pub in_room : (file room : ℕ) (told : Option Files) (name : List ℕ) (left : Option (List ℕ)) (result : Result (Vec IdRecord Global) IdFault)
-    → AnswersFile file room told name left result
-    → IfOk result (λ records. vec_len records ≤ room)
+pub in_room : {T : Type 0} (file room : ℕ) (told left : Option (List ℕ)) (result : Result T IdFault) (before now : Vec IdRecord Global)
+    → AnswersTold file room told left result (λ _ all. now.items ≡ before.items ++ all)
+    → IfOk result (λ _. vec_len now ≤ vec_len before + room)
 unfolding first_fault
-in_room file room told name left (Ok records) h =
+in_room file room told left (Ok given) before now h =
     let few = few_records_of MAX_BYTES file room h.0 h.2.0 in
-    omega (arith, records.ok.0, ap length h.2.1)
-in_room file room told name left (Err fault) h = tt
+    omega (arith, now.ok.0, before.ok.0, ap length h.2.1, length-append before.items (records_of file h.0))
+in_room file room told left (Err fault) before now h = tt
+
+-- records that stand behind none are those of the file
+pub given_alone : {T : Type 0} (given : T) (file room : ℕ) (told : Option Files) (name : List ℕ) (left : Option (List ℕ))
+    (before : List IdRecord) (records : Vec IdRecord Global) → before ≡ []
+    → AnswersFile file room told name left (Ok given) (λ _ all. records.items ≡ before ++ all)
+    → AnswersFile file room told name left (Ok records) (λ records all. records.items ≡ all)
+given_alone given file room told name left before records none h =
+    (h.0, h.1, (h.2.0, h.2.1 ∙ ap (λ (rs : List IdRecord). rs ++ records_of file h.0) none))
 
 -- where a file has no fault, the answer is its records
 gives : (file room : ℕ) (bytes : List ℕ) (left : Option (List ℕ)) (all : List IdRecord)
-    (result : Result (Vec IdRecord Global) IdFault) → Answers file room bytes left result
+    (result : Result (Vec IdRecord Global) IdFault) → Answers file room bytes left result (λ records all. records.items ≡ all)
     → first_fault file room bytes ≡ None → records_of file bytes ≡ all → GivesRecords all result
 gives file room bytes left all (Ok records) h none is = h.1 ∙ is
 gives file room bytes left all (Err NoMemory) h none is = tt
@@ -93,7 +84,7 @@ gives file room bytes left all (Err TooMany) h none is = cc
 
 -- printed ids are read back
 pub reads_back : (file room : ℕ) (told : Option Files) (name : List ℕ) (left : Option (List ℕ)) (result : Result (Vec IdRecord Global) IdFault)
-    → AnswersFile file room told name left result
+    → AnswersFile file room told name left result (λ records all. records.items ≡ all)
     → ReadsBack file room told name result
 unfolding first_fault
 reads_back file room None name left result h = tt

@@ -7,6 +7,7 @@ pub mod LawIds
 pub mod LawLine
 pub mod LawLines
 pub mod LawPieces
+pub mod LawPrefix
 pub mod LawRun
 pub mod LawScan
 pub mod LoopFeed

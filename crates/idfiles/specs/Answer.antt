@@ -30,25 +30,31 @@ IsFineBefore file room bytes (Some (b ∷ rest)) =
     (front : List ℕ) × (bytes ≡ front ++ b ∷ rest) × (length front ≤ most_bytes)
     × (line_fault file room 1 (ended_from [] front) ≡ None)
 
--- The answer for a file of these bytes, of which `left` is left then: its records where it has no
--- fault, else its first fault, unless memory runs out or a read fails.
-abbrev pub Answers : ℕ → ℕ → List ℕ → Option (List ℕ) → Result (Vec IdRecord Global) IdFault → Type 0
-Answers file room bytes left (Ok records) =
-    (first_fault file room bytes ≡ None) × (records.items ≡ records_of file bytes)
-Answers file room bytes left (Err fault) = Says (first_fault file room bytes)
+-- What refuses a file of these bytes, of which `left` is left then: its first fault, unless memory
+-- runs out or a read fails.
+abbrev pub Refuses : ℕ → ℕ → List ℕ → Option (List ℕ) → IdFault → Type 0
+Refuses file room bytes left fault = Says (first_fault file room bytes)
     (λ at. (at ≡ file) × IsFineBefore file room bytes left) fault
 
+-- The answer for a file of these bytes: where it has no fault its records, which what is given has
+-- as `gives` says, else what refuses it.
+abbrev pub Answers : {T : Type 0} → ℕ → ℕ → List ℕ → Option (List ℕ) → Result T IdFault
+    → (T → List IdRecord → Type 0) → Type 0
+Answers file room bytes left (Ok given) gives =
+    (first_fault file room bytes ≡ None) × gives given (records_of file bytes)
+Answers file room bytes left (Err fault) gives = Refuses file room bytes left fault
+
 -- the answer for these bytes where they are told, and else for some bytes
-abbrev pub AnswersTold : ℕ → ℕ → Option (List ℕ) → Option (List ℕ)
-    → Result (Vec IdRecord Global) IdFault → Type 0
-AnswersTold file room told left result =
-    (bytes : List ℕ) × IfSome told (λ all. bytes ≡ all) × Answers file room bytes left result
+abbrev pub AnswersTold : {T : Type 0} → ℕ → ℕ → Option (List ℕ) → Option (List ℕ)
+    → Result T IdFault → (T → List IdRecord → Type 0) → Type 0
+AnswersTold file room told left result gives =
+    (bytes : List ℕ) × IfSome told (λ all. bytes ≡ all) × Answers file room bytes left result gives
 
 -- the same for the file of this name
-abbrev pub AnswersFile : ℕ → ℕ → Option Files → List ℕ → Option (List ℕ)
-    → Result (Vec IdRecord Global) IdFault → Type 0
-AnswersFile file room told name left result =
-    AnswersTold file room (option_map (λ files. bytes_of files name) told) left result
+abbrev pub AnswersFile : {T : Type 0} → ℕ → ℕ → Option Files → List ℕ → Option (List ℕ)
+    → Result T IdFault → (T → List IdRecord → Type 0) → Type 0
+AnswersFile file room told name left result gives =
+    AnswersTold file room (option_map (λ files. bytes_of files name) told) left result gives
 
 -- a read fault was counted once, and with any other result no fault was
 abbrev pub HasReadCause : {T : Type 0} → ℕ → ℕ → Result T IdFault → Type 0

@@ -1,5 +1,6 @@
 // A file of inputs, read whole.
-ghost use Rattle.std.specs.Prelude.{◌≡◌, ◌<◌, ◌≤◌, length, vec_len, IfOk};
+ghost use Rattle.std.specs.Prelude.{◌≡◌, ◌+◌, ◌<◌, ◌≤◌, ◌++◌, length, vec_len, IfOk, OnErr};
+ghost use mathlib.Core.List.{IsPrefix};
 ghost use Rattle.idfiles.specs.Answer.{AnswersFile, AnswersTold, HasReadCause, ReadsBack};
 
 use crate::fault::MAX_BYTES;
@@ -26,10 +27,35 @@ pub fn read_ids<I: Inputs>(
     file: u32,
     room: u64,
 ) -> Result<Vec<IdRecord>, IdFault>
-    ensures answer { AnswersFile file room (I.files inputs.old) name.now (I.left inputs.new)
-        result }
+    ensures answer { AnswersFile file room (I.files inputs.old) name.now (I.left inputs.new) result
+        (λ records all. records.items ≡ all) }
     ensures read_back { ReadsBack file room (I.files inputs.old) name.now result }
     ensures room { IfOk result (λ records. vec_len records ≤ room) }
+    ensures cause { HasReadCause (I.faults inputs.old) (I.faults inputs.new) result }
+    ensures files { I.files inputs.new ≡ I.files inputs.old }
+{
+    let mut records = Vec::new(alloc);
+    append_ids(alloc, inputs, &mut records, name, file, room)?;
+    Ok(records)
+}
+
+/// Reads the file of this name as `read_ids` does, and puts its records behind those that the
+/// vector has. `room` is how many records the file may have, however many there are.
+///
+/// After an `Err` the vector is as it was. The fault is that of `read_ids`, and so is what is said
+/// of the inputs. `room` is a corollary of `answer`.
+pub fn append_ids<I: Inputs>(
+    alloc: Global,
+    inputs: &mut I,
+    records: &mut Vec<IdRecord>,
+    name: &str,
+    file: u32,
+    room: u64,
+) -> Result<(), IdFault>
+    ensures answer { AnswersFile file room (I.files inputs.old) name.now (I.left inputs.new) result
+        (λ _ all. records.new.items ≡ records.old.items ++ all) }
+    ensures refused { OnErr result (records.new.items ≡ records.old.items) }
+    ensures room { IfOk result (λ _. vec_len records.new ≤ vec_len records.old + room) }
     ensures cause { HasReadCause (I.faults inputs.old) (I.faults inputs.new) result }
     ensures files { I.files inputs.new ≡ I.files inputs.old }
 {
@@ -37,7 +63,13 @@ pub fn read_ids<I: Inputs>(
     if inputs.start(name).is_err() {
         return Err(IdFault::ReadFault { file });
     }
-    read_started(alloc, inputs, buffer.as_mut_slice(), file, room)
+    let before = records.len();
+    let read = append_started(inputs, records, buffer.as_mut_slice(), file, room);
+    if let Err(fault) = read {
+        records.truncate(before);
+        return Err(fault);
+    }
+    Ok(())
 }
 
 // So many bytes, each 0.
@@ -47,20 +79,22 @@ fn zeros(alloc: Global, count: usize) -> Result<Vec<u8>, AllocError>
     vec![in alloc; 0u8; count]
 }
 
-// The same of the file that was started, through this buffer.
-fn read_started<I: Inputs>(
-    alloc: Global,
+// The same of the file that was started, through this buffer. After an `Err` some of its records
+// may stand behind the others.
+fn append_started<I: Inputs>(
     inputs: &mut I,
+    records: &mut Vec<IdRecord>,
     buffer: &mut [u8],
     file: u32,
     room: u64,
-) -> Result<Vec<IdRecord>, IdFault>
+) -> Result<(), IdFault>
     requires { (0 < length buffer.old) × (length buffer.old ≤ PIECE_BYTES) }
-    ensures answer { AnswersTold file room (I.left inputs.old) (I.left inputs.new) result }
+    ensures answer { AnswersTold file room (I.left inputs.old) (I.left inputs.new) result
+        (λ _ all. records.new.items ≡ records.old.items ++ all) }
+    ensures front { IsPrefix records.old.items records.new.items }
     ensures cause { HasReadCause (I.faults inputs.old) (I.faults inputs.new) result }
     ensures files { I.files inputs.new ≡ I.files inputs.old }
 {
-    let mut records = Vec::new(alloc);
     let mut scan = Scan::new(file, room);
     let mut left = MAX_BYTES;
     'pieces: loop {
@@ -68,10 +102,10 @@ fn read_started<I: Inputs>(
             return Err(IdFault::ReadFault { file });
         };
         if count == 0 {
-            scan.end_line(&mut records)?;
-            return Ok(records);
+            scan.end_line(records)?;
+            return Ok(());
         }
-        scan = scan.feed_within(&mut records, &buffer[..count], left)?;
+        scan = scan.feed_within(records, &buffer[..count], left)?;
         left -= count;
     }
 }

@@ -1,5 +1,6 @@
 // A file read from its front, line by line.
 ghost use Rattle.std.specs.Prelude.{◌≡◌, ◌+◌, ◌-◌, ◌^◌, ◌<◌, ◌≤◌, length, IfOk};
+ghost use mathlib.Core.List.{IsPrefix};
 ghost use Rattle.idfiles.specs.Scan.{Gives, ended, scanned, scanned_within, start};
 
 use crate::front::{ByteKind, leading};
@@ -32,10 +33,11 @@ impl Scan {
         }
     }
 
-    /// Ends the line. After an `Err` the records aren't those of a file.
+    /// Ends the line, whose record comes behind the others.
     pub fn end_line(self, records: &mut Vec<IdRecord>) -> Result<Scan, IdFault>
         requires { self.line + 1 < 2 ^ 64 }
         ensures read { Gives result records.new.items (ended self records.old.items) }
+        ensures front { IsPrefix records.old.items records.new.items }
         ensures line { IfOk result (λ scan. scan.line ≡ self.line + 1) }
     {
         let mut room = self.room;
@@ -65,11 +67,12 @@ impl Scan {
         })
     }
 
-    /// Takes the bytes, and ends each line at its LF. After an `Err` the records aren't those of a
-    /// file.
+    /// Takes the bytes, and ends each line at its LF. After an `Err` the records of the lines that
+    /// ended before it may stand behind the others.
     pub fn feed(self, records: &mut Vec<IdRecord>, bytes: &[u8]) -> Result<Scan, IdFault>
         requires { self.line + length bytes.now + 1 < 2 ^ 64 }
         ensures read { Gives result records.new.items (scanned self records.old.items bytes.now) }
+        ensures front { IsPrefix records.old.items records.new.items }
         ensures line { IfOk result (λ scan. scan.line ≤ self.line + length bytes.now) }
     {
         let mut scan = self;
@@ -103,6 +106,7 @@ impl Scan {
         requires { self.line + length bytes.now + 1 < 2 ^ 64 }
         ensures read { Gives result records.new.items
             (scanned_within left self records.old.items bytes.now) }
+        ensures front { IsPrefix records.old.items records.new.items }
         ensures line { IfOk result (λ scan. scan.line ≤ self.line + length bytes.now) }
         ensures within { IfOk result (λ scan. length bytes.now ≤ left) }
     {

@@ -128,6 +128,39 @@ fn a_failed_call_is_a_read_fault(rt: HostRuntime) -> Result<(), Fail> {
     Ok(())
 }
 
+// Catches a body that starts the vector anew, or leaves in it what came before a fault.
+#[test]
+fn records_come_behind_earlier_ones_and_leave_after_a_fault(rt: HostRuntime) -> Result<(), Fail> {
+    let alloc = rt.alloc();
+    let mut records = Vec::new(alloc);
+    let mut inputs = one_file(alloc, b"5\n\n6", &[], 2)?;
+    append_ids(alloc, &mut inputs, &mut records, "f", 1, 2)?;
+    append_ids(alloc, &mut inputs, &mut records, "f", 2, 2)?;
+    let both = [(1, 1, 5), (1, 3, 6), (2, 1, 5), (2, 3, 6)];
+    let cases = [
+        (b"".as_slice(), [].as_slice(), ROOM, None),
+        (
+            b"7\nx\n",
+            &[],
+            ROOM,
+            Some(IdFault::BadLine { file: 3, line: 2 }),
+        ),
+        (b"7\n8", &[], 1, Some(IdFault::TooMany)),
+        (b"7\n8", &[2], ROOM, Some(IdFault::ReadFault { file: 3 })),
+    ];
+    for (bytes, fails, room, fault) in cases {
+        let mut inputs = one_file(alloc, bytes, fails, 2)?;
+        let read = append_ids(alloc, &mut inputs, &mut records, "f", 3, room).err();
+        assert_eq!(rt; read, fault);
+        let found = records
+            .iter()
+            .map(|record| (record.file, record.line, record.id));
+        let found: Vec<(u32, u64, u64)> = found.collect(alloc)?;
+        assert_eq!(rt; found.as_slice(), both.as_slice());
+    }
+    Ok(())
+}
+
 #[test]
 fn ends_an_input_without_end(rt: HostRuntime) -> Result<(), Fail> {
     let alloc = rt.alloc();

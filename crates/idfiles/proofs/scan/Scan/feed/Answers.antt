@@ -1,4 +1,5 @@
 use Rattle.std.proofs.Common.{◌≡◌, ◌-◌, length, take, drop, length-drop, ap, ◌∙◌, arith}
+use Rattle.idfiles.proofs.LawPrefix.{prefix_trans}
 use Rattle.idfiles.proofs.LoopFeed.{takes_lines, takes_run, slice_from}
 use Rattle.idfiles.specs.declared.line.LineState.TheVariants.{Blank}
 use Rattle.idfiles.proofs.scan.Scan.feed.Goals as goal
@@ -17,6 +18,7 @@ loop-at-preserved-then-is_blank c =
     record {
       within = omega (arith, lines.ensures.within, ap length left, length-drop at bytes);
       line = omega (arith, before.line);
+      front = before.front;
       rest = turn ∙ before.rest;
     }
 
@@ -33,5 +35,10 @@ loop-at-preserved-then-rest-ne10 c =
     record {
       within = omega (arith, run.ensures.taken.1, ap length left, length-drop at bytes);
       line = omega (arith, before.line);
+      front = before.front;
       rest = rw run.ensures.state (turn ∙ before.rest);
     }
+
+-- a line was refused
+pub returns-in_err-scan-clause-front : goal.returns-in_err-scan-clause-front
+returns-in_err-scan-clause-front c = prefix_trans _ _ _ c.loop-at.invariant.front c.end_line.ensures.front

@@ -1,4 +1,5 @@
 use Rattle.std.proofs.Common.{◌≡◌, ◌+◌, ◌-◌, ◌≤◌, length, drop}
+use mathlib.Core.List.{IsPrefix}
 use Rattle.idfiles.specs.Scan.{scanned}
 use Rattle.idfiles.proofs.scan.Scan.feed.Given as goal
 
@@ -7,6 +8,7 @@ abbrev pub invariant-loop-at : goal.invariant-loop-at
 invariant-loop-at l = record {
   within : l.at ≤ length l.bytes;
   line : l.scan.line ≤ l.fn.self.line + l.at;
+  front : IsPrefix l.fn.records.items l.records.items;
   rest : scanned l.scan l.records.items (drop l.at l.bytes) ≡ scanned l.fn.self l.fn.records.items l.bytes;
 }
 

@@ -3,7 +3,9 @@ use Rattle.std.proofs.Common.{◌≡◌, ℕ, ◌+◌, ◌-◌, ◌*◌, ◌^◌
 use Rattle.std.proofs.Math.Nat.{pow-le-pow_right}
 use Rattle.std.proofs.lemmas.Bool.Decides.{nat_tests}
 use Rattle.std.proofs.lemmas.Int.Digits.{digits_value-lt, digits_value_more}
+use Rattle.std.proofs.lemmas.List.Elements.{All-get_or, All-take}
 use Rattle.std.proofs.lemmas.List.Folds.{list_all_more}
+use Rattle.std.proofs.lemmas.List.Sums.{AllPass-from_list_all, list_all-from_AllPass}
 use Rattle.std.proofs.lemmas.Str.Parse.{IsNumeralModel, numerals_by_value}
 use Rattle.std.specs.List.{list_all}
 use Rattle.std.specs.Char.{is_ascii_digit, digit_value}
@@ -30,15 +32,25 @@ value_after-append n [] ys = refl
 value_after-append n (x ∷ xs) ys = value_after-append (n * 10 + digit_value x) xs ys
 
 -- among as many digits as are safe those before the last leave room for one more
-pub digits_value-safe : (bs : List ℕ) (k i : ℕ) → k ≤ safe_digits → i < length (take k bs) → list_all is_ascii_digit (take i (take k bs)) ≡ true
-    → digits_value 10 (take i (take k bs)) * 10 + 9 < 2 ^ 64
-digits_value-safe bs k i most within digits =
-    let front = take i (take k bs) in
-    let few : length (take k bs) ≤ safe_digits = simp length-take (omega arith) in
+pub digits_value-safe : (bs : List ℕ) (i : ℕ) → length bs ≤ safe_digits → i < length bs → list_all is_ascii_digit (take i bs) ≡ true
+    → digits_value 10 (take i bs) * 10 + 9 < 2 ^ 64
+digits_value-safe bs i few within digits =
+    let front = take i bs in
     let short : length front ≤ 18 = rw length-take (omega arith) in
     let below : digits_value 10 front < 10 ^ length front = digits_value-lt 10 front (numerals.to front digits) in
     let power : 10 ^ length front ≤ 10 ^ 18 = pow-le-pow_right (omega arith) short in
     omega arith
+
+-- a front of digits are digits
+pub digits-take : (bs : List ℕ) (i : ℕ) → list_all is_ascii_digit bs ≡ true → list_all is_ascii_digit (take i bs) ≡ true
+digits-take bs i digits =
+    list_all-from_AllPass is_ascii_digit (take i bs)
+    (All-take (λ b. is_ascii_digit b ≡ true) i bs (AllPass-from_list_all is_ascii_digit bs digits))
+
+-- each of some digits is one
+pub digits-at : (bs : List ℕ) (i : ℕ) → i < length bs → list_all is_ascii_digit bs ≡ true → is_ascii_digit (get_or bs i 0) ≡ true
+digits-at bs i within digits =
+    All-get_or (λ b. is_ascii_digit b ≡ true) bs i 0 within (AllPass-from_list_all is_ascii_digit bs digits)
 
 -- the front of some bytes is one digit longer
 pub record IsLonger (bs : List ℕ) (i : ℕ) : Type 0 where

@@ -6,7 +6,7 @@ use Rattle.std.specs.Char.{is_ascii_digit, digit_value}
 use Rattle.std.specs.Str.Parse.{digits_value, digits_value_after}
 use Rattle.idfiles.specs.Grammar.{is_blank, is_inner}
 use Rattle.idfiles.specs.Kinds.{is_of}
-use Rattle.idfiles.specs.Limits.{most_digits, safe_digits}
+use Rattle.idfiles.specs.Limits.{most_digits}
 use Rattle.idfiles.specs.declared.front.ByteKind.{ByteKind}
 use Rattle.idfiles.specs.declared.front.ByteKind.TheVariants.{Lf, Inner}
 use Rattle.idfiles.specs.declared.front.ByteKind.TheVariants as kind
@@ -71,8 +71,8 @@ blank_digits (d ∷ ds) some short h fits =
     let count : 1 + length ds ≡ length (d ∷ ds) = omega arith in
     rw (plain, parts.0) (more_digits 1 (d - 48) ds parts.1 (omega arith) below ∙ ap₂ Digits count (sym worth))
 
--- digits at the front of a line, no more than are safe
-pub blank_front : (n : ℕ) (xs : List ℕ) → 0 < n → n ≤ safe_digits → n ≤ length xs → list_all is_ascii_digit (take n xs) ≡ true
+-- digits at the front of a line, no more than an id may have
+pub blank_front : (n : ℕ) (xs : List ℕ) → 0 < n → n ≤ most_digits → n ≤ length xs → list_all is_ascii_digit (take n xs) ≡ true
     → digits_value 10 (take n xs) < 2 ^ 64 → Digits n (digits_value 10 (take n xs)) ≡ after_bytes Blank (take n xs)
 blank_front n xs some short within h fits =
     let size : length (take n xs) ≡ n = simp length-take (omega arith) in

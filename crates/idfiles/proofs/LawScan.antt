@@ -62,12 +62,13 @@ StateAs-bind : (text : List ℕ) (read : Read) (next : Scan × List IdRecord →
 StateAs-bind text (Ok now) next rest = rest now.0 now.1 refl
 StateAs-bind text (Err fault) next rest = tt
 
-abbrev state_of : Read → LineState
+-- the state that reading leaves
+abbrev pub state_of : Read → LineState
 state_of (Ok now) = now.0.state
 state_of (Err fault) = Blank
 
 -- behind an LF a new line begins
-state_of-ended : (is : Line) (scan : Scan) (records : List IdRecord) → state_of (ended_as is scan records) ≡ Blank
+pub state_of-ended : (is : Line) (scan : Scan) (records : List IdRecord) → state_of (ended_as is scan records) ≡ Blank
 state_of-ended line.Blank scan records = refl
 state_of-ended line.Bad scan records = refl
 state_of-ended (line.Id id) scan records = go (scan.room == 0) where

@@ -11,4 +11,5 @@ pub mod LawPrefix
 pub mod LawRun
 pub mod LawScan
 pub mod LoopFeed
+pub mod LoopPlain
 pub mod LoopRead

@@ -1,7 +1,7 @@
 -- One turn of reading a piece: an LF ends the line, other bytes change its state.
 use Rattle.std.proofs.Common.{◌≡◌, ℕ, ◌+◌, ◌-◌, ◌≤◌, true, false, ◌==◌, List, [], ◌∷◌, ◌++◌, length, take, drop, refl, sym, ap, ◌∙◌, take-append-drop, length-drop, add-zero, arith}
 use Rattle.std.proofs.lemmas.Bool.Decides.{nat_tests}
-use Rattle.std.proofs.lemmas.List.{drop-drop, length-take-le, take_all}
+use Rattle.std.proofs.lemmas.List.{length-take-le, take_all}
 use Rattle.std.specs.List.{list_all}
 use Rattle.idfiles.specs.Grammar.{is_inner, lf}
 use Rattle.idfiles.specs.Kinds.{is_of}
@@ -22,14 +22,11 @@ scanned-inner (x ∷ xs) h scan records ys =
     let other : (x == lf) ≡ false = grind (arith, nat_tests) in
     rw other (scanned-inner xs parts.1 (record scan { state = after_byte scan.state x }) records ys)
 
--- a turn that took n bytes without an LF from what is left
-pub takes_run : (scan : Scan) (records : List IdRecord) (bytes rest : List ℕ) (at n : ℕ) → rest ≡ drop at bytes
-    → list_all is_inner (take n rest) ≡ true
-    → scanned (record scan { state = after_bytes scan.state (take n rest) }) records (drop (at + n) bytes) ≡ scanned scan records
-    (drop at bytes)
-takes_run scan records bytes rest at n left inner =
-    rw (← drop-drop n at bytes, ← left) (sym
-    (ap (scanned scan records) (sym (take-append-drop n rest)) ∙ scanned-inner (take n rest) inner scan records (drop n rest)))
+-- a turn that took n bytes without an LF from the front
+pub takes_run : (scan : Scan) (records : List IdRecord) (bytes : List ℕ) (n : ℕ) → list_all is_inner (take n bytes) ≡ true
+    → scanned (record scan { state = after_bytes scan.state (take n bytes) }) records (drop n bytes) ≡ scanned scan records bytes
+takes_run scan records bytes n inner =
+    sym (ap (scanned scan records) (sym (take-append-drop n bytes)) ∙ scanned-inner (take n bytes) inner scan records (drop n bytes))
 
 -- what a slice from a place to the end holds
 pub slice_from : (bytes : List ℕ) (at : ℕ) → take (length bytes - at) (drop at bytes) ≡ drop at bytes
@@ -48,15 +45,15 @@ scanned-lfs (x ∷ xs) h file room line records ys =
     ∙ ap (λ (n : ℕ). scanned (record { file = file; room = room; line = n; state = Blank }) records ys) more
     )
 
--- a turn that took n LFs from what is left
-pub takes_lines : (scan : Scan) (records : List IdRecord) (bytes rest : List ℕ) (at n : ℕ) → rest ≡ drop at bytes → n ≤ length rest
-    → scan.state ≡ Blank → list_all (is_of Lf) (take n rest) ≡ true
-    → scanned (record scan { line = scan.line + n }) records (drop (at + n) bytes) ≡ scanned scan records (drop at bytes)
-takes_lines scan records bytes rest at n left within blank lfs =
-    let size : length (take n rest) ≡ n = length-take-le n rest within in
-    rw (← drop-drop n at bytes, ← left, blank) (sym (
-    ap (scanned (record scan { state = Blank }) records) (sym (take-append-drop n rest))
-    ∙ scanned-lfs (take n rest) lfs scan.file scan.room scan.line records (drop n rest)
-    ∙ ap (λ (k : ℕ). scanned (record { file = scan.file; room = scan.room; line = scan.line + k; state = Blank }) records (drop n rest))
+-- a turn that took n LFs from the front
+pub takes_lines : (scan : Scan) (records : List IdRecord) (bytes : List ℕ) (n : ℕ) → n ≤ length bytes
+    → scan.state ≡ Blank → list_all (is_of Lf) (take n bytes) ≡ true
+    → scanned (record scan { line = scan.line + n }) records (drop n bytes) ≡ scanned scan records bytes
+takes_lines scan records bytes n within blank lfs =
+    let size : length (take n bytes) ≡ n = length-take-le n bytes within in
+    rw blank (sym (
+    ap (scanned (record scan { state = Blank }) records) (sym (take-append-drop n bytes))
+    ∙ scanned-lfs (take n bytes) lfs scan.file scan.room scan.line records (drop n bytes)
+    ∙ ap (λ (k : ℕ). scanned (record { file = scan.file; room = scan.room; line = scan.line + k; state = Blank }) records (drop n bytes))
     size
     ))

@@ -1,5 +1,5 @@
 -- A file read from its front: what is kept of it, one byte after the other.
-use Rattle.std.specs.Prelude.{◌≡◌, ℕ, ◌+◌, ◌-◌, ◌==◌, nat_le, if◌then◌else◌, List, [], ◌∷◌, ◌++◌, length, take, Result, Ok, Err}
+use Rattle.std.specs.Prelude.{◌≡◌, ℕ, ◌+◌, ◌-◌, ◌==◌, nat_le, if◌then◌else◌, List, [], ◌∷◌, ◌++◌, length, take, drop, Result, Ok, Err}
 use Rattle.idfiles.specs.Grammar.{lf}
 use Rattle.idfiles.specs.Machine.{after_byte, at_end}
 use Rattle.idfiles.specs.declared.line.Line.{Line}
@@ -8,6 +8,7 @@ use Rattle.idfiles.specs.declared.line.LineState.TheVariants as state
 use Rattle.idfiles.specs.declared.id_record.IdRecord.{IdRecord}
 use Rattle.idfiles.specs.declared.fault.IdFault.{IdFault}
 use Rattle.idfiles.specs.declared.fault.IdFault.TheVariants.{NoMemory, BadLine, ReadFault, TooLong, TooMany}
+use Rattle.idfiles.specs.declared.scan.Fed.{Fed}
 use Rattle.idfiles.specs.declared.scan.Scan.{Scan}
 
 -- what reading gives: the scan and the records so far, or the fault that was met
@@ -67,3 +68,9 @@ Fails TooMany read = read ≡ Err TooMany
 abbrev pub Gives : Result Scan IdFault → List IdRecord → Read → Type 0
 Gives (Ok scan) records read = read ≡ Ok (scan, records)
 Gives (Err fault) records read = Fails fault read
+
+-- a call that took bytes from the front of these: what it left, read on, gives what reading all of
+-- them gives, unless memory ran out
+abbrev pub GivesFront : Result Fed IdFault → List IdRecord → List ℕ → Read → Type 0
+GivesFront (Ok fed) records bytes read = scanned fed.scan records (drop fed.taken bytes) ≡ read
+GivesFront (Err fault) records bytes read = Fails fault read

@@ -14,6 +14,7 @@ mod front;
 mod grammar;
 mod id_record;
 mod line;
+mod plain;
 mod print;
 mod read;
 mod scan;

@@ -3,13 +3,14 @@ ghost use Rattle.std.specs.Prelude.{◌≡◌, ◌==◌, ◌↔◌, ℕ, IsTrue,
 ghost use Rattle.std.specs.List.{list_all};
 ghost use Rattle.std.specs.Char.{is_ascii_digit};
 ghost use Rattle.idfiles.specs.Grammar.{IsIdLine, is_inner, lf};
+ghost use Rattle.idfiles.specs.Limits.{most_digits};
 ghost use Rattle.idfiles.specs.Machine.{IsAfter, after_byte, after_bytes, at_end, keeps_at, with_digit};
 
-use crate::digits::{leading_digits, with_digit};
+use crate::digits::{Digits, leading_digits, with_digit};
 use crate::front::{ByteKind, leading};
 
-// An id has at most so many digits.
-const MAX_DIGITS: u32 = 20;
+/// An id has at most so many digits.
+pub const MAX_DIGITS: u32 = 20;
 
 /// What a whole line is.
 #[derive(Clone, Copy, Debug, PartialEq, Eq)]
@@ -73,10 +74,7 @@ fn digits_run(bytes: &[u8]) -> Run
 {
     let digits = leading_digits(bytes);
     Run {
-        state: LineState::Digits {
-            count: digits.count as u32,
-            value: digits.value,
-        },
+        state: LineState::of_digits(digits),
         taken: digits.count,
     }
 }
@@ -91,6 +89,17 @@ pub struct Run {
 }
 
 impl LineState {
+    /// What a line is that has begun with these digits.
+    pub fn of_digits(digits: Digits) -> LineState
+        requires { digits.count ≤ most_digits }
+        ensures { result ≡ LineState.Digits digits.count digits.value }
+    {
+        LineState::Digits {
+            count: digits.count as u32,
+            value: digits.value,
+        }
+    }
+
     /// Whether nothing but blanks has come.
     pub fn is_blank(self) -> bool
         ensures { IsTrue result ↔ (self ≡ LineState.Blank) }

@@ -1,7 +1,7 @@
 // A file read from its front, line by line.
 ghost use Rattle.std.specs.Prelude.{◌≡◌, ◌+◌, ◌-◌, ◌^◌, ◌<◌, ◌≤◌, length, IfOk};
 ghost use mathlib.Core.List.{IsPrefix};
-ghost use Rattle.idfiles.specs.Scan.{Gives, ended, scanned, scanned_within, start};
+ghost use Rattle.idfiles.specs.Scan.{Gives, GivesFront, ended, ended_as, next_line, scanned, scanned_within, start};
 
 use crate::front::{ByteKind, leading};
 use crate::line::{Line, LineState};
@@ -20,6 +20,15 @@ pub struct Scan {
     pub state: LineState,
 }
 
+/// A scan, and how many bytes at the front of some led to it.
+#[derive(Clone, Copy)]
+pub struct Fed {
+    /// How far the file was read then.
+    pub scan: Scan,
+    /// How many the bytes are.
+    pub taken: usize,
+}
+
 impl Scan {
     /// Nothing is read yet of this file, which may have so many records.
     pub fn new(file: u32, room: u64) -> Scan
@@ -33,6 +42,38 @@ impl Scan {
         }
     }
 
+    // The next line begins, with so much room.
+    fn next_line(self, room: u64) -> Scan
+        requires { self.line + 1 < 2 ^ 64 }
+        ensures { result ≡ next_line self room }
+    {
+        Scan {
+            file: self.file,
+            room,
+            line: self.line + 1,
+            state: LineState::Blank,
+        }
+    }
+
+    /// Ends the line as this id, whose record comes behind the others.
+    pub fn end_id(self, records: &mut Vec<IdRecord>, id: u64) -> Result<Scan, IdFault>
+        requires { self.line + 1 < 2 ^ 64 }
+        ensures read { Gives result records.new.items
+            (ended_as (Line.Id id) self records.old.items) }
+        ensures front { IsPrefix records.old.items records.new.items }
+        ensures line { IfOk result (λ scan. scan.line ≡ self.line + 1) }
+    {
+        if self.room == 0 {
+            return Err(IdFault::TooMany);
+        }
+        records.push(IdRecord {
+            file: self.file,
+            line: self.line,
+            id,
+        })?;
+        Ok(self.next_line(self.room - 1))
+    }
+
     /// Ends the line, whose record comes behind the others.
     pub fn end_line(self, records: &mut Vec<IdRecord>) -> Result<Scan, IdFault>
         requires { self.line + 1 < 2 ^ 64 }
@@ -40,31 +81,14 @@ impl Scan {
         ensures front { IsPrefix records.old.items records.new.items }
         ensures line { IfOk result (λ scan. scan.line ≡ self.line + 1) }
     {
-        let mut room = self.room;
         match self.state.line() {
-            Line::Blank => {}
-            Line::Bad => {
-                return Err(IdFault::BadLine {
-                    file: self.file,
-                    line: self.line,
-                });
-            }
-            Line::Id(_) if room == 0 => return Err(IdFault::TooMany),
-            Line::Id(id) => {
-                records.push(IdRecord {
-                    file: self.file,
-                    line: self.line,
-                    id,
-                })?;
-                room -= 1;
-            }
+            Line::Blank => Ok(self.next_line(self.room)),
+            Line::Id(id) => self.end_id(records, id),
+            Line::Bad => Err(IdFault::BadLine {
+                file: self.file,
+                line: self.line,
+            }),
         }
-        Ok(Scan {
-            file: self.file,
-            room,
-            line: self.line + 1,
-            state: LineState::Blank,
-        })
     }
 
     /// Takes the bytes, and ends each line at its LF. After an `Err` the records of the lines that
@@ -78,22 +102,63 @@ impl Scan {
         let mut scan = self;
         let mut at = 0;
         while at < bytes.len() {
-            let rest = &bytes[at..];
-            if rest[0] != b'\n' {
-                let run = scan.state.run(rest);
-                scan.state = run.state;
-                at += run.taken;
-            } else if scan.state.is_blank() {
-                // A blank line ends, and the empty lines behind it.
-                let lines = leading(rest, ByteKind::Lf);
-                scan.line += lines as u64;
-                at += lines;
-            } else {
-                scan = scan.end_line(records)?;
-                at += 1;
-            }
+            let fed = scan.turn(records, &bytes[at..])?;
+            scan = fed.scan;
+            at += fed.taken;
         }
         Ok(scan)
+    }
+
+    // Takes the plain lines at the front where a line begins with a digit; else, or where nothing
+    // was taken, what `careful_turn` takes. Both are inlined, since a turn may be short.
+    #[inline(always)]
+    fn turn(self, records: &mut Vec<IdRecord>, bytes: &[u8]) -> Result<Fed, IdFault>
+        requires some { 0 < length bytes.now }
+        requires fits { self.line + length bytes.now + 1 < 2 ^ 64 }
+        ensures read { GivesFront result records.new.items bytes.now
+            (scanned self records.old.items bytes.now) }
+        ensures taken { IfOk result (λ fed. (0 < fed.taken) × (fed.taken ≤ length bytes.now)) }
+        ensures front { IsPrefix records.old.items records.new.items }
+        ensures line { IfOk result (λ fed. fed.scan.line ≤ self.line + fed.taken) }
+    {
+        if !self.state.is_blank() || !bytes[0].is_ascii_digit() {
+            return self.careful_turn(records, bytes);
+        }
+        let fed = self.plain_lines(records, bytes)?;
+        if fed.taken > 0 {
+            return Ok(fed);
+        }
+        fed.scan.careful_turn(records, bytes)
+    }
+
+    // Takes an LF, or bytes that stand together before the next.
+    #[inline(always)]
+    fn careful_turn(self, records: &mut Vec<IdRecord>, bytes: &[u8]) -> Result<Fed, IdFault>
+        requires some { 0 < length bytes.now }
+        requires fits { self.line + length bytes.now + 1 < 2 ^ 64 }
+        ensures read { GivesFront result records.new.items bytes.now
+            (scanned self records.old.items bytes.now) }
+        ensures taken { IfOk result (λ fed. (0 < fed.taken) × (fed.taken ≤ length bytes.now)) }
+        ensures front { IsPrefix records.old.items records.new.items }
+        ensures line { IfOk result (λ fed. fed.scan.line ≤ self.line + fed.taken) }
+    {
+        let mut scan = self;
+        if bytes[0] != b'\n' {
+            let run = self.state.run(bytes);
+            scan.state = run.state;
+            return Ok(Fed {
+                scan,
+                taken: run.taken,
+            });
+        }
+        if self.state.is_blank() {
+            // A blank line ends, and the empty lines behind it.
+            let lines = leading(bytes, ByteKind::Lf);
+            scan.line += lines as u64;
+            return Ok(Fed { scan, taken: lines });
+        }
+        scan = self.end_line(records)?;
+        Ok(Fed { scan, taken: 1 })
     }
 
     /// Takes at most `left` of the bytes; one more is a fault.

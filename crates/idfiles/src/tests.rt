@@ -72,6 +72,34 @@ fn reads_blanks_empty_lines_and_a_missing_last_lf(rt: HostRuntime) -> Result<(),
     Ok(())
 }
 
+// Catches a body that misreads what stands behind a block of 16 digits, or in it.
+#[test]
+fn reads_plain_lines_about_as_long_as_a_block(rt: HostRuntime) -> Result<(), Fail> {
+    let alloc = rt.alloc();
+    let lines = [
+        (b"123456789012345\n".as_slice(), 123_456_789_012_345),
+        (b"1234567890123456\n", 1_234_567_890_123_456),
+        (b"12345678901234567\n", 12_345_678_901_234_567),
+        (b"123456789012345678\n", 123_456_789_012_345_678),
+        (b"1234567890123456789\n", 1_234_567_890_123_456_789),
+        (b"12345678901234567890\n", 12_345_678_901_234_567_890),
+        (b"00000000000000000007\n", 7),
+        (b"8\n", 8),
+    ];
+    let mut bytes = Vec::new(alloc);
+    for (line, _) in lines {
+        bytes.extend_from_slice(line)?;
+    }
+    for piece in [5, 64, 1000] {
+        let mut inputs = one_file(alloc, &bytes, &[], piece)?;
+        let read = read_ids(alloc, &mut inputs, "f", 1, ROOM)?;
+        let found: Vec<u64> = read.iter().map(|record| record.id).collect(alloc)?;
+        let ids: Vec<u64> = lines.iter().map(|(_, id)| *id).collect(alloc)?;
+        assert_eq!(rt; found.as_slice(), ids.as_slice(), "{piece} bytes a read");
+    }
+    Ok(())
+}
+
 #[test]
 fn refuses_the_first_bad_line(rt: HostRuntime) -> Result<(), Fail> {
     let alloc = rt.alloc();

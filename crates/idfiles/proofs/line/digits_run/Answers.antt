@@ -13,5 +13,5 @@ returns-clause-state c =
     let front = take digits.result.count c.args.bytes.now in
     let some = digits.ensures.some c.requires in
     let fits : digits_value 10 front < 2 ^ 64 = omega (arith, digits.ensures.value) in
-    rw digits.ensures.value
+    rw (c.of_digits.ensures, digits.ensures.value)
     (blank_front digits.result.count c.args.bytes.now some digits.ensures.count.0 digits.ensures.count.1 digits.ensures.digits fits)

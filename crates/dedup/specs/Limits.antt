@@ -1,9 +1,14 @@
 -- The numbers that bound a run.
 use Rattle.std.specs.Prelude.{ℕ}
+use Rattle.dedup.specs.declared.command.TheConstants.{MAX_ROOM}
 
 -- the most FILEs of a command
 abbrev pub most_files : ℕ
 most_files = 64
+
+-- the most room of a round that can be asked for, in words of 64 bits
+abbrev pub most_room : ℕ
+most_room = MAX_ROOM
 
 -- the most records of a run
 abbrev pub most_records : ℕ

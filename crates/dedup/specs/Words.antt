@@ -1,5 +1,5 @@
 -- The words that a run is given: when they are the command, and what they then ask for.
-use Rattle.std.specs.Prelude.{◌≡◌, ⊤, ℕ, Bool, true, false, ◌&&◌, ◌==◌, if◌then◌else◌, bytes_eq, codes, List, [], ◌∷◌, length, map, nat_lt, nat_le, Option, Some, None, is_some, unwrap_or, String, string_bytes}
+use Rattle.std.specs.Prelude.{◌≡◌, ◌≤◌, ⊤, ℕ, Bool, true, false, ◌&&◌, if◌then◌else◌, bytes_eq, codes, List, [], ◌∷◌, length, map, nat_lt, nat_le, Option, Some, None, is_some, unwrap_or, String, string_bytes}
 use Rattle.std.specs.Char.{is_ascii_digit}
 use Rattle.std.specs.List.{list_all}
 use Rattle.std.specs.Option.{option_map_or}
@@ -9,13 +9,15 @@ use Rattle.clap.specs.Words.{App, Kinds, Row, Rule, all_of, fault_of, first_of, 
 use Rattle.clap.specs.declared.builder.action.ArgAction.TheVariants.{Append, Set}
 use Rattle.clap.specs.declared.error.kind.ErrorKind.{ErrorKind}
 use Rattle.clap.specs.declared.error.kind.ErrorKind.TheVariants.{OutOfMemory}
+use Rattle.dedup.specs.declared.command.TheConstants.{DEFAULT_ROOM, MAX_ROOM_DIGITS, MAX_WORKERS, MAX_WORKERS_DIGITS}
+use Rattle.dedup.specs.declared.command.Command.{Command}
 use Rattle.dedup.specs.declared.command.Listing.{Listing}
 use Rattle.dedup.specs.declared.command.Listing.TheVariants.{Keep, Ids, Count}
 use Rattle.dedup.specs.declared.fault.Fault.{Fault}
 use Rattle.dedup.specs.declared.fault.Fault.TheVariants.{BadWords}
 use Rattle.dedup.specs.declared.fault.Fault.TheVariants as fault
 use Rattle.idfiles.specs.declared.fault.IdFault.TheVariants.{NoMemory}
-use Rattle.dedup.specs.Limits.{most_files}
+use Rattle.dedup.specs.Limits.{most_files, most_room}
 
 -- the words as bytes
 abbrev pub texts : List (String Global) → List (List ℕ)
@@ -29,10 +31,12 @@ option_rule name = record (new_rule name) { long = Some name; action = Some Set 
 abbrev pub file_rule : Rule
 file_rule = record (new_rule (codes "FILE")) { action = Some Append }
 
--- the command as `clap` reads it: `dedup [--workers N] [--list LIST] FILE...`, with any values
+-- the command as `clap` reads it, with any values:
+-- `dedup [--workers N] [--way WAY] [--room WORDS] [--list LIST] FILE...`
 unfoldable pub dedup_app : App
-dedup_app = with_rule (with_rule (with_rule (new_app (codes "dedup"))
-    (option_rule (codes "workers"))) (option_rule (codes "list"))) file_rule
+dedup_app = with_rule (with_rule (with_rule (with_rule (with_rule (new_app (codes "dedup"))
+    (option_rule (codes "workers"))) (option_rule (codes "way"))) (option_rule (codes "room")))
+    (option_rule (codes "list"))) file_rule
 
 -- whether there is no fault
 abbrev pub is_faultless : Kinds → Bool
@@ -47,10 +51,28 @@ is_read words = is_faultless (fault_of dedup_app words)
 unfoldable pub rows_in : List (List ℕ) → List Row
 rows_in words = matches_of dedup_app words
 
--- whether a value is at most 3 digits, which write 1
-abbrev pub is_one : List ℕ → Bool
-is_one value = nat_le (length value) 3
-    && (list_all is_ascii_digit value && digits_value 10 value == 1)
+-- whether a value is 1 to so many digits and no other byte
+abbrev pub is_numeral : ℕ → List ℕ → Bool
+is_numeral digits value = nat_lt 0 (length value)
+    && (nat_le (length value) digits && list_all is_ascii_digit value)
+
+-- the number that a value writes in 1 to so many digits, where it is one from `least` to `most`
+abbrev pub number_in : ℕ → ℕ → ℕ → List ℕ → Option ℕ
+number_in digits least most value = if is_numeral digits value
+    && (nat_le least (digits_value 10 value) && nat_le (digits_value 10 value) most)
+    then Some (digits_value 10 value) else None
+
+-- whether a value writes the number of workers
+abbrev pub is_worker_count : List ℕ → Bool
+is_worker_count value = is_some (number_in MAX_WORKERS_DIGITS 1 MAX_WORKERS value)
+
+-- whether a value names the way in which calls are made, of which there is one
+abbrev pub is_way : List ℕ → Bool
+is_way value = bytes_eq value (codes "try")
+
+-- the room that a value writes, in words of 64 bits
+abbrev pub room_written : List ℕ → Option ℕ
+room_written value = number_in MAX_ROOM_DIGITS 0 most_room value
 
 -- the list that a value names
 abbrev pub listing_named : List ℕ → Option Listing
@@ -60,7 +82,15 @@ listing_named value = if bytes_eq value (codes "keep") then Some Keep else
 
 -- whether the number of workers is 1, as it also is where none is given
 abbrev pub has_one_worker : List Row → Bool
-has_one_worker rows = option_map_or is_one (first_of (codes "workers") rows) true
+has_one_worker rows = option_map_or is_worker_count (first_of (codes "workers") rows) true
+
+-- whether the way is the one that there is, as it also is where none is given
+abbrev pub has_one_way : List Row → Bool
+has_one_way rows = option_map_or is_way (first_of (codes "way") rows) true
+
+-- the room of a round that is asked for, the default where none is given
+abbrev pub room_in : List Row → Option ℕ
+room_in rows = option_map_or room_written (first_of (codes "room") rows) (Some DEFAULT_ROOM)
 
 -- the list that is asked for, `keep` where none is given
 abbrev pub listing_in : List Row → Option Listing
@@ -74,10 +104,18 @@ files_in rows = unwrap_or (all_of (codes "FILE") rows) []
 abbrev pub is_file_count : ℕ → Bool
 is_file_count count = nat_lt 0 count && nat_le count most_files
 
+-- whether each option and FILE has the values that it takes
+abbrev pub are_values : List Row → Bool
+are_values rows = has_one_worker rows && (has_one_way rows && (is_some (room_in rows)
+    && (is_some (listing_in rows) && is_file_count (length (files_in rows)))))
+
 -- Whether the words are the command. The first of them is the program's name, whatever it is.
 abbrev pub is_command : List (List ℕ) → Bool
-is_command words = is_read words && (has_one_worker (rows_in words)
-    && (is_some (listing_in (rows_in words)) && is_file_count (length (files_in (rows_in words)))))
+is_command words = is_read words && are_values (rows_in words)
+
+-- the room of a round that the command asks for
+abbrev pub room_asked : List (List ℕ) → ℕ
+room_asked words = unwrap_or (room_in (rows_in words)) DEFAULT_ROOM
 
 -- the list that the command asks for
 abbrev pub list_asked : List (List ℕ) → Listing
@@ -86,6 +124,11 @@ list_asked words = unwrap_or (listing_in (rows_in words)) Keep
 -- the files that it names
 abbrev pub files_named : List (List ℕ) → List (List ℕ)
 files_named words = files_in (rows_in words)
+
+-- what a command asks for keeps to the limits
+pub record KeepsLimits (asked : Command) : Type 0 where
+  pub room : asked.room ≤ most_room
+  pub files : length asked.files.items ≤ most_files
 
 -- the fault of a run whose words `clap` answers with an error
 abbrev pub fault_of_kind : ErrorKind → Fault

@@ -1,13 +1,18 @@
 // The words of a run, read by `clap`.
-ghost use Rattle.std.specs.Prelude.{◌≡◌, IfOk, IfErr, true, false, length, map};
+ghost use Rattle.std.specs.Prelude.{◌≡◌, ◌≤◌, IfOk, IfErr, IfSome, true, false, length, map};
 ghost use Rattle.std.specs.Char.{is_ascii_digit};
 ghost use Rattle.std.specs.List.{list_all};
 ghost use Rattle.clap.specs.Words.{app_of, found_of, rows_of, rule_of};
-ghost use Rattle.dedup.specs.Words.{MayRefuse, dedup_app, fault_of_kind, file_rule, files_in, files_named};
-ghost use Rattle.dedup.specs.Words.{has_one_worker, is_command, is_file_count, is_one, is_read, list_asked};
-ghost use Rattle.dedup.specs.Words.{listing_in, listing_named, option_rule, rows_in, texts};
+ghost use Rattle.dedup.specs.Limits.{most_room};
+ghost use Rattle.dedup.specs.Words.{KeepsLimits, MayRefuse, dedup_app, fault_of_kind, file_rule};
+ghost use Rattle.dedup.specs.Words.{files_in, files_named, has_one_way, has_one_worker, is_command};
+ghost use Rattle.dedup.specs.Words.{is_file_count, is_read, list_asked, listing_in, listing_named};
+ghost use Rattle.dedup.specs.Words.{number_in, option_rule, room_asked, room_in, rows_in, texts};
 
-use crate::command::{Command, Listing, MAX_FILES};
+use crate::command::{
+    Command, DEFAULT_ROOM, Listing, MAX_FILES, MAX_ROOM, MAX_ROOM_DIGITS, MAX_WORKERS,
+    MAX_WORKERS_DIGITS,
+};
 use crate::fault::Fault;
 use clap::error::ErrorKind;
 use clap::{Arg, ArgAction, ArgMatches};
@@ -17,20 +22,29 @@ use std::alloc::{AllocError, Global};
 /// What the words ask for. The first of them is the program's name, whatever it is.
 pub(crate) fn read_words<'a>(alloc: Global, words: &'a [String]) -> Result<Command<'a>, Fault>
     ensures words { IfOk result (λ _. is_command (texts words.now) ≡ true) }
+    ensures room { IfOk result (λ asked. asked.room ≡ room_asked (texts words.now)) }
     ensures listing { IfOk result (λ asked. asked.listing ≡ list_asked (texts words.now)) }
     ensures files { IfOk result (λ asked. map (λ name. name.now) asked.files.items
         ≡ files_named (texts words.now)) }
+    ensures fits { IfOk result (λ asked. KeepsLimits asked) }
     ensures refused { IfErr result (MayRefuse (is_command (texts words.now))) }
 {
     let matches = parsed(alloc, words)?;
-    if !has_one_worker(&matches) {
+    if !has_one_worker(&matches) || !has_one_way(&matches) {
         return Err(Fault::BadWords);
     }
+    let Some(room) = room_in(&matches) else {
+        return Err(Fault::BadWords);
+    };
     let Some(listing) = listing_in(&matches) else {
         return Err(Fault::BadWords);
     };
     let files = files_in(alloc, &matches)?;
-    Ok(Command { listing, files })
+    Ok(Command {
+        room,
+        listing,
+        files,
+    })
 }
 
 fn parsed<'a>(alloc: Global, words: &'a [String]) -> Result<ArgMatches<'a>, Fault>
@@ -50,6 +64,8 @@ fn dedup_command<'a>(alloc: Global) -> Result<clap::Command<'a>, AllocError>
 {
     clap::Command::new(alloc, "dedup")
         .arg(option(alloc, "workers"))?
+        .arg(option(alloc, "way"))?
+        .arg(option(alloc, "room"))?
         .arg(option(alloc, "list"))?
         .arg(files(alloc))
 }
@@ -81,20 +97,41 @@ fn has_one_worker(matches: &ArgMatches<'_>) -> bool
     ensures { result ≡ has_one_worker (rows_of (found_of matches.now)) }
 {
     match matches.get_str("workers") {
-        Some(value) => is_one(value),
+        Some(value) => number_in(value, MAX_WORKERS_DIGITS, 1, MAX_WORKERS).is_some(),
         None => true,
     }
 }
 
-fn is_one(value: &str) -> bool
-    ensures { result ≡ is_one value.now }
+fn has_one_way(matches: &ArgMatches<'_>) -> bool
+    ensures { result ≡ has_one_way (rows_of (found_of matches.now)) }
 {
-    if value.len() > 3 || !has_digits_alone(value) {
-        return false;
+    match matches.get_str("way") {
+        Some(value) => value == "try",
+        None => true,
     }
-    match value.parse::<u8>() {
-        Ok(number) => number == 1,
-        Err(_) => false,
+}
+
+fn room_in(matches: &ArgMatches<'_>) -> Option<u64>
+    ensures value { result ≡ room_in (rows_of (found_of matches.now)) }
+    ensures fits { IfSome result (λ room. room ≤ most_room) }
+{
+    match matches.get_str("room") {
+        Some(value) => number_in(value, MAX_ROOM_DIGITS, 0, MAX_ROOM),
+        None => Some(DEFAULT_ROOM),
+    }
+}
+
+fn number_in(value: &str, digits: usize, least: u64, most: u64) -> Option<u64>
+    ensures value { result ≡ number_in digits least most value.now }
+    ensures from { IfSome result (λ number. least ≤ number) }
+    ensures to { IfSome result (λ number. number ≤ most) }
+{
+    if value.is_empty() || value.len() > digits || !has_digits_alone(value) {
+        return None;
+    }
+    match value.parse::<u64>() {
+        Ok(number) if least <= number && number <= most => Some(number),
+        _ => None,
     }
 }
 

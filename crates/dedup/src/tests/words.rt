@@ -4,14 +4,19 @@ use crate::words::read_words;
 use std::alloc::{AllocError, Global};
 use std::test::Fail;
 
-// The list and the files that these words behind the program's name ask for, or that they are bad.
-fn answer_to(alloc: Global, words: &[&str]) -> Result<String, Fail> {
+// The program's name, and these words behind it.
+fn words_of_run(alloc: Global, words: &[&str]) -> Result<Vec<String>, Fail> {
     let mut owned = Vec::new(alloc);
     owned.push(String::from_str(alloc, "dedup")?)?;
     for word in words {
         owned.push(String::from_str(alloc, word)?)?;
     }
-    match read_words(alloc, &owned) {
+    Ok(owned)
+}
+
+// The list and the files that these words behind the program's name ask for, or that they are bad.
+fn answer_to(alloc: Global, words: &[&str]) -> Result<String, Fail> {
+    match read_words(alloc, &words_of_run(alloc, words)?) {
         Ok(asked) => {
             let files = asked.files.join(alloc, " ")?;
             Ok(format!(in alloc; "{:?}: {files}", asked.listing)?)
@@ -21,9 +26,18 @@ fn answer_to(alloc: Global, words: &[&str]) -> Result<String, Fail> {
     }
 }
 
+// The room that these words behind the program's name ask for, none where they are bad.
+fn room_of(alloc: Global, words: &[&str]) -> Result<Option<u64>, Fail> {
+    match read_words(alloc, &words_of_run(alloc, words)?) {
+        Ok(asked) => Ok(Some(asked.room)),
+        Err(Fault::BadWords) => Ok(None),
+        Err(_) => Err(AllocError.into()),
+    }
+}
+
 #[test]
 fn reads_the_command_and_nothing_else(rt: HostRuntime) -> Result<(), Fail> {
-    let cases: [(&[&str], &str); 33] = [
+    let cases: [(&[&str], &str); 41] = [
         (&["f"], "Keep: f"),
         (&["g", "f", "g"], "Keep: g f g"),
         (&["--list", "keep", "f"], "Keep: f"),
@@ -55,7 +69,15 @@ fn reads_the_command_and_nothing_else(rt: HostRuntime) -> Result<(), Fail> {
         (&["--help", "f"], "bad words"),
         (&["-h", "f"], "bad words"),
         (&["--version", "f"], "bad words"),
-        (&["--way", "try", "f"], "bad words"),
+        (&["--way", "try", "f"], "Keep: f"),
+        (&["--way=try", "--list", "ids", "f"], "Ids: f"),
+        (&["--way", "helped", "f"], "bad words"),
+        (&["--way", "Try", "f"], "bad words"),
+        (&["--way", "", "f"], "bad words"),
+        (&["--way", "try", "--way", "try", "f"], "bad words"),
+        (&["f", "--way"], "bad words"),
+        (&["--room", "5", "f", "g"], "Keep: f g"),
+        (&["--room", "5"], "bad words"),
         (&["--check", "g", "f"], "bad words"),
     ];
     for (words, answer) in cases {
@@ -64,6 +86,41 @@ fn reads_the_command_and_nothing_else(rt: HostRuntime) -> Result<(), Fail> {
             answer,
             "at {words:?}"
         );
+    }
+    Ok(())
+}
+
+#[test]
+fn a_room_is_0_to_134217728_in_9_digits_at_most(rt: HostRuntime) -> Result<(), Fail> {
+    let cases: [(&[&str], Option<u64>); 25] = [
+        (&["f"], Some(16777216)),
+        (&["--room", "0", "f"], Some(0)),
+        (&["--room", "1", "f"], Some(1)),
+        (&["--room=5", "f"], Some(5)),
+        (&["f", "--room", "4096", "--list", "ids", "g"], Some(4096)),
+        (&["--room", "16777217", "f"], Some(16777217)),
+        (&["--room", "134217727", "f"], Some(134217727)),
+        (&["--room", "134217728", "f"], Some(134217728)),
+        (&["--room", "000000000", "f"], Some(0)),
+        (&["--room", "000000007", "f"], Some(7)),
+        (&["--", "--room", "5"], Some(16777216)),
+        (&["--room", "134217729", "f"], None),
+        (&["--room", "999999999", "f"], None),
+        (&["--room", "0000000000", "f"], None),
+        (&["--room", "0000000007", "f"], None),
+        (&["--room", "18446744073709551621", "f"], None),
+        (&["--room", "x", "f"], None),
+        (&["--room", "5x", "f"], None),
+        (&["--room", "+1", "f"], None),
+        (&["--room=-1", "f"], None),
+        (&["--room", " 5", "f"], None),
+        (&["--room", "", "f"], None),
+        (&["--room=", "f"], None),
+        (&["f", "--room"], None),
+        (&["--room", "5", "--room", "5", "f"], None),
+    ];
+    for (words, room) in cases {
+        assert_eq!(rt; room_of(rt.alloc(), words)?, room, "at {words:?}");
     }
     Ok(())
 }

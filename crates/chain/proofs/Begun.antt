@@ -93,16 +93,19 @@ below-range count number here =
     let below : place.0 < count = omega (arith, place.1, length-range_with_len 0 count) in
     omega (arith, below, place.2, get_or-range_with_len 0 count place.0 0 below)
 
-module _ (count : ℕ) (rounds : List RoundEnd) (once : IsPermutation (begun_in rounds ++ []) (range_with_len 0 count)) where
-  numbers-same : (number : ℕ) → is_in (begun_in rounds) number ≡ is_in (range_with_len 0 count) number
-  numbers-same number =
-      ap (λ numbers. is_in numbers number) (sym (append-nil (begun_in rounds)))
-      ∙ list_any-IsPermutation (λ y. nat_eq y number) (begun_in rounds ++ []) (range_with_len 0 count) once
+module _ (count : ℕ) (rounds : List RoundEnd) (left : List ℕ) (once : IsPermutation (begun_in rounds ++ left) (range_with_len 0 count)) where
+  numbers-same : (number : ℕ) → is_in (begun_in rounds ++ left) number ≡ is_in (range_with_len 0 count) number
+  numbers-same number = list_any-IsPermutation (λ y. nat_eq y number) (begun_in rounds ++ left) (range_with_len 0 count) once
 
-  -- where no record is still to come, the numbers of all records were begun
-  pub is_in-begun_in : (number : ℕ) → number < count → is_in (begun_in rounds) number ≡ true
-  is_in-begun_in number below = numbers-same number ∙ is_in-range count number below
-
-  -- and no others
+  -- only numbers of records were begun
   pub below-begun_in : (number : ℕ) → is_in (begun_in rounds) number ≡ true → number < count
-  below-begun_in number here = below-range count number (sym (numbers-same number) ∙ here)
+  below-begun_in number here =
+      below-range count number (sym (numbers-same number) ∙ is_in-append_left (begun_in rounds) left number here)
+
+-- and where no record is still to come, those of all
+pub is_in-begun_in : (count : ℕ) (rounds : List RoundEnd) → IsPermutation (begun_in rounds ++ []) (range_with_len 0 count)
+    → (number : ℕ) → number < count → is_in (begun_in rounds) number ≡ true
+is_in-begun_in count rounds once number below =
+    ap (λ numbers. is_in numbers number) (sym (append-nil (begun_in rounds)))
+    ∙ numbers-same count rounds [] once number
+    ∙ is_in-range count number below

@@ -30,34 +30,36 @@ keys_asked-at asked number within =
     (omega (arith, within, length-map asked (λ call. call.key)))
     (eq-eqb _ _ (get_or-map (λ call. call.key) asked number no_call key within))
 
-module _ (asked : List Asked) (turns : ℕ) (rounds : List RoundEnd) (chain : IsRunChain asked turns rounds [])
-    (inserts : All (λ call. call.call ≡ Insert) asked) where
-  -- a key that is asked for is a member at the end
-  asked_is_member : (key : ℕ) → is_in (keys_asked asked) key ≡ true → members_after no_key (chain_of rounds) key ≡ true
-  asked_is_member key here =
-      let place = place_of-is_in (keys_asked asked) key here in
-      let within : place.0 < length asked = omega (arith, place.1, length-map asked (λ call. call.key)) in
-      let same : (asked_at asked place.0).key ≡ key =
-      sym (get_or-map (λ call. call.key) asked place.0 no_call 0 within) ∙ place.2 in
-      subst (λ k. members_after no_key (chain_of rounds) k ≡ true) same
-      (chain_adds asked inserts no_key rounds place.0 chain.recorded chain.answered
-      (is_in-begun_in (length asked) rounds chain.once place.0 within))
+-- the members at the end of the chain are asked for
+pub members_are_asked : (asked : List Asked) (turns : ℕ) (rounds : List RoundEnd) (left : List ℕ) → IsRunChain asked turns rounds left
+    → All (λ call. call.call ≡ Insert) asked
+    → (key : ℕ) → members_after no_key (chain_of rounds) key ≡ true → is_in (keys_asked asked) key ≡ true
+members_are_asked asked turns rounds left chain inserts key here =
+    let all = chain_inserts asked rounds inserts chain.recorded in
+    let found = chain_asks asked rounds key chain.recorded
+    (sym (members_after-inserts no_key (chain_of rounds) key all) ∙ here) in
+    subst (λ k. is_in (keys_asked asked) k ≡ true) found.asks
+    (keys_asked-at asked found.number (below-begun_in (length asked) rounds left chain.once found.number found.within))
 
-  -- and there are no other members
-  member_is_asked : (key : ℕ) → members_after no_key (chain_of rounds) key ≡ true → is_in (keys_asked asked) key ≡ true
-  member_is_asked key here =
-      let all = chain_inserts asked rounds inserts chain.recorded in
-      let found = chain_asks asked rounds key chain.recorded
-      (sym (members_after-inserts no_key (chain_of rounds) key all) ∙ here) in
-      subst (λ k. is_in (keys_asked asked) k ≡ true) found.asks
-      (keys_asked-at asked found.number (below-begun_in (length asked) rounds chain.once found.number found.within))
+-- and where no record is still to come, all keys that are asked for are members
+asked_are_members : (asked : List Asked) (turns : ℕ) (rounds : List RoundEnd) → IsRunChain asked turns rounds []
+    → All (λ call. call.call ≡ Insert) asked
+    → (key : ℕ) → is_in (keys_asked asked) key ≡ true → members_after no_key (chain_of rounds) key ≡ true
+asked_are_members asked turns rounds chain inserts key here =
+    let place = place_of-is_in (keys_asked asked) key here in
+    let within : place.0 < length asked = omega (arith, place.1, length-map asked (λ call. call.key)) in
+    let same : (asked_at asked place.0).key ≡ key =
+    sym (get_or-map (λ call. call.key) asked place.0 no_call 0 within) ∙ place.2 in
+    subst (λ k. members_after no_key (chain_of rounds) k ≡ true) same
+    (chain_adds asked inserts no_key rounds place.0 chain.recorded chain.answered
+    (is_in-begun_in (length asked) rounds chain.once place.0 within))
 
--- the members at the end of the chain are the keys that are asked for
+-- So the members are then the keys that are asked for.
 pub inserts_members : (asked : List Asked) (turns : ℕ) (rounds : List RoundEnd) → IsRunChain asked turns rounds []
     → All (λ call. call.call ≡ Insert) asked
     → (key : ℕ) → members_after no_key (chain_of rounds) key ≡ is_in (keys_asked asked) key
 inserts_members asked turns rounds chain inserts key =
-    same_answer _ _ (member_is_asked asked turns rounds chain inserts key) (asked_is_member asked turns rounds chain inserts key)
+    same_answer _ _ (members_are_asked asked turns rounds [] chain inserts key) (asked_are_members asked turns rounds chain inserts key)
 
 -- the records whose insert changed the set have each key that is asked for once
 pub inserts_once : (asked : List Asked) (turns : ℕ) (rounds : List RoundEnd) → IsRunChain asked turns rounds []

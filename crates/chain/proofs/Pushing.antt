@@ -8,6 +8,7 @@ use Rattle.std.proofs.lemmas.List.Elements.{All-nil, All-head, All-tail, All-pus
 use Rattle.std.proofs.lemmas.List.Sorted.{IsPermutation-refl, IsPermutation-sym, IsPermutation-trans, IsPermutation-append_right}
 use Rattle.set_model.specs.History.{IsLegal, members_after}
 use Rattle.set_model.proofs.LawHistory.{members_after-append, IsLegal-append}
+use Rattle.chain.specs.Changing.{changing_in, changing_of}
 use Rattle.chain.specs.Chain.{Asked, RoundEnd, AllFrom, AnswersEachCall, CountsCalls, HasKeysAfter, HasOrder, IsRunChain, IsOfRecord, IsRunRound, SettlesLast, ShowCauses, begun_in, chain_of, entries_of, no_key, numbers_in}
 
 -- what one element more adds to a list of lists put together
@@ -25,6 +26,11 @@ chain_of-push rounds round = flat_map-push entries_of rounds round
 pub begun_in-push : (rounds : List RoundEnd) (round : RoundEnd)
     → begun_in (rounds ++ round ∷ []) ≡ begun_in rounds ++ numbers_in round.made
 begun_in-push rounds round = flat_map-push (λ round. numbers_in round.made) rounds round
+
+-- and to the records whose insert changed the set those of its own
+pub changing_of-push : (rounds : List RoundEnd) (round : RoundEnd)
+    → changing_of (rounds ++ round ∷ []) ≡ changing_of rounds ++ changing_in round
+changing_of-push rounds round = flat_map-push changing_in rounds round
 
 -- what holds with each round, and with one more from the members that the others leave, holds with all
 pub AllFrom-push : (Fact : (ℕ → Bool) → RoundEnd → Type 0) (members : ℕ → Bool) (rounds : List RoundEnd) (round : RoundEnd)

@@ -1,21 +1,95 @@
 -- How a run ends whose words aren't read.
-use Rattle.std.proofs.Common.{ℕ, Bool, List, map, Option, Err}
+use Rattle.std.proofs.Common.{◌≡◌, ◌∙◌, ℕ, Bool, Bor, List, [], length, map, Option, Ok, Err, Vec, refl, sym, subst}
+use Rattle.std.specs.declared.alloc.Global.{Global}
+use Rattle.std.specs.List.{range_with_len}
 use Rattle.std.proofs.KnownBytes.{Keeps-refl}
 use Rattle.outside.specs.Files.{Files}
 use Rattle.dedup.specs.declared.fault.Fault.{Fault}
 use Rattle.idfiles.specs.declared.fault.IdFault.TheVariants.{NoMemory, BadLine, ReadFault, TooLong, TooMany}
 use Rattle.dedup.specs.declared.fault.Fault.TheVariants.{BadWords, Ids, Write}
-use Rattle.dedup.specs.Run.{Ends}
+use Rattle.chain.proofs.Pushing.{chain_none}
+use Rattle.chain.specs.Chain.{IsRunChain, RoundEnd}
+use Rattle.idfiles.specs.declared.fault.IdFault.{IdFault}
+use Rattle.idfiles.specs.declared.id_record.IdRecord.{IdRecord}
+use Rattle.dedup.specs.Inputs.{AnswersFiles, AreContents, run_records}
+use Rattle.dedup.specs.Output.{IsListing}
+use Rattle.dedup.specs.declared.command.Listing.{Listing}
+use Rattle.dedup.specs.Limits.{tried_turns}
+use Rattle.dedup.specs.Records.{asked_of}
+use Rattle.dedup.specs.Run.{Ends, HasMade, ListsFiles}
 use Rattle.dedup.specs.Words.{MayRefuse, files_named}
 use Rattle.dedup.proofs.LawInputs.{are-some, content_in}
 
--- nothing is read and nothing written
+-- before the first round all records are still to come
+pub made_none : (contents : List (List ℕ)) → HasMade contents [] NoMemory
+made_none contents =
+    let asked = asked_of (run_records contents) in
+    (range_with_len 0 (length asked), chain_none asked tried_turns)
+
+-- and so where the files aren't read
+pub unread : (contents : List (List ℕ)) (rounds : List RoundEnd) (fault : IdFault) → rounds ≡ [] → HasMade contents rounds fault
+unread contents rounds NoMemory none = subst (λ (all : List RoundEnd). HasMade contents all NoMemory) (sym none) (made_none contents)
+unread contents rounds (BadLine file line) none = none
+unread contents rounds (ReadFault file) none = none
+unread contents rounds (TooLong file) none = none
+unread contents rounds TooMany none = none
+
+-- the names behind references
+abbrev pub names_of : List (Bor (List ℕ)) → List (List ℕ)
+names_of refs = map (λ name. name.now) refs
+
+module _ (told : Option Files) (left : Option (List ℕ)) (refs files : List (Bor (List ℕ))) (same : refs ≡ files) (rounds : List RoundEnd)
+    (listing : Listing) where
+  -- the files are refused before any round is made
+  pub lists_unread : (fault : IdFault) → rounds ≡ [] → AnswersFiles told (names_of refs) left (Err fault)
+      → ListsFiles told (names_of files) rounds left listing (Err (Ids fault))
+  lists_unread fault none answer = (
+    answer.0,
+    subst (λ (all : List (Bor (List ℕ))). AreContents told (names_of all) answer.0) same answer.1,
+    (answer.2, unread answer.0 rounds fault none),
+  )
+
+  module _ (records : Vec IdRecord Global) (answer : AnswersFiles told (names_of refs) left (Ok records)) (seen : List IdRecord)
+      (same_records : seen ≡ records.items) where
+    contents_are : AreContents told (names_of files) answer.0
+    contents_are = subst (λ (all : List (Bor (List ℕ))). AreContents told (names_of all) answer.0) same answer.1
+
+    all_records : seen ≡ run_records answer.0
+    all_records = same_records ∙ answer.2.1
+
+    made : (turns : ℕ) (still : List ℕ) → turns ≡ tried_turns → IsRunChain (asked_of seen) turns rounds still
+        → IsRunChain (asked_of (run_records answer.0)) tried_turns rounds still
+    made turns still tried chain =
+        subst (λ (n : ℕ). IsRunChain (asked_of (run_records answer.0)) n rounds still) tried
+        (subst (λ (all : List IdRecord). IsRunChain (asked_of all) turns rounds still) all_records chain)
+
+    -- memory was refused once they were read
+    pub lists_refused : (turns : ℕ) → turns ≡ tried_turns → ((still : List ℕ) × IsRunChain (asked_of seen) turns rounds still)
+        → ListsFiles told (names_of files) rounds left listing (Err (Ids NoMemory))
+    lists_refused turns tried chain =
+        (answer.0, contents_are, (tt, (chain.0, made turns chain.0 tried chain.1)))
+
+    -- their list was made
+    pub lists_all : (turns : ℕ) (text : Vec ℕ Global) → turns ≡ tried_turns → IsRunChain (asked_of seen) turns rounds []
+        → IsListing listing seen rounds text.items → ListsFiles told (names_of files) rounds left listing (Ok text)
+    lists_all turns text tried chain is = (
+      answer.0,
+      contents_are,
+      record {
+        none = answer.2.0;
+        chain = made turns [] tried chain;
+        text = subst (λ (all : List IdRecord). IsListing listing all rounds text.items) all_records is;
+      },
+    )
+
+-- nothing is read, no round is made and nothing written
 pub Ends-unread : (told : Option Files) (words : List (List ℕ)) (left before : Option (List ℕ)) (test : Bool) (fault : Fault)
-    → MayRefuse test fault → Ends told words left before before (Err fault)
+    → MayRefuse test fault → Ends told words [] left before before (Err fault)
 Ends-unread told words left before test BadWords may =
-    (map (content_in told) (files_named words), are-some told (files_named words), Keeps-refl before)
+    (map (content_in told) (files_named words), are-some told (files_named words), (refl, Keeps-refl before))
 Ends-unread told words left before test (Ids NoMemory) may =
-    (map (content_in told) (files_named words), are-some told (files_named words), (tt, Keeps-refl before))
+    let contents = map (content_in told) (files_named words) in
+    (contents, are-some told (files_named words), (tt, made_none contents, Keeps-refl before))
 Ends-unread told words left before test (Ids (BadLine file line)) may = absurd may
 Ends-unread told words left before test (Ids (ReadFault file)) may = absurd may
 Ends-unread told words left before test (Ids (TooLong file)) may = absurd may

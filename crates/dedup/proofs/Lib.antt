@@ -1,6 +1,14 @@
+mod LawClosing
+mod LawCrews
+mod LawCuts
 mod LawEnds
-mod LawFirsts
+mod LawHands
 mod LawInputs
+mod LawInserted
+mod LawKept
 mod LawKinds
-mod LawRow
-mod LawTable
+mod LawLists
+mod LawParts
+mod LawRecords
+mod LawRounds
+mod LawSettling

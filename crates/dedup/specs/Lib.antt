@@ -1,8 +1,12 @@
+pub mod Crews
 pub mod Fault
 pub mod Inputs
 pub mod Limits
+pub mod Modeled
 pub mod Output
 pub mod Records
+pub mod Rounds
 pub mod Run
-pub mod Table
+pub mod Settling
 pub mod Words
+pub mod Workers

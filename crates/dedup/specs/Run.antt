@@ -1,43 +1,54 @@
 -- How a run ends, and what that says of the files and of what was written.
-use Rattle.std.specs.Prelude.{◌≡◌, ◌⊎◌, ◌==◌, ℕ, if◌then◌else◌, false, List, length, take, Option, None, Result, Ok, Err, Vec}
+use Rattle.std.specs.Prelude.{◌≡◌, ◌⊎◌, ◌==◌, ℕ, if◌then◌else◌, false, List, [], take, Option, None, Result, Ok, Err, Vec}
 use Rattle.std.specs.Io.KnownBytes.{Appends, Keeps}
 use Rattle.std.specs.declared.alloc.Global.{Global}
 use Rattle.outside.specs.Faults.{Rose, one_more}
 use Rattle.outside.specs.Files.{Files}
-use Rattle.idfiles.specs.declared.id_record.IdRecord.{IdRecord}
+use Rattle.chain.specs.Chain.{IsRunChain, RoundEnd}
+use Rattle.idfiles.specs.declared.fault.IdFault.{IdFault}
+use Rattle.idfiles.specs.declared.fault.IdFault.TheVariants.{NoMemory}
 use Rattle.dedup.specs.Fault.{ending_line, status_of}
 use Rattle.dedup.specs.Inputs.{AreContents, SaysOf, run_fault, run_records}
-use Rattle.dedup.specs.Output.{text_of}
-use Rattle.dedup.specs.Records.{AreFirsts}
+use Rattle.dedup.specs.Limits.{tried_turns}
+use Rattle.dedup.specs.Output.{IsListing}
+use Rattle.dedup.specs.Records.{asked_of}
 use Rattle.dedup.specs.Words.{files_named, is_command, list_asked}
 use Rattle.dedup.specs.declared.command.Listing.{Listing}
 use Rattle.dedup.specs.declared.fault.Fault.{Fault}
 use Rattle.dedup.specs.declared.fault.Fault.TheVariants.{BadWords, Ids, Write}
 
--- what is printed of files without a fault: the list of the first record of each id, rising
-pub record IsOutput (listing : Listing) (contents : List (List ℕ)) (output : List ℕ) : Type 0 where
+-- What is printed of files without a fault, once these rounds have put their records into a set: the
+-- rounds are a chain in which each record's insert was answered.
+pub record IsOutput (listing : Listing) (contents : List (List ℕ)) (rounds : List RoundEnd)
+    (output : List ℕ) : Type 0 where
   pub none : run_fault contents ≡ None
-  pub firsts : List IdRecord
-  pub are : AreFirsts (run_records contents) firsts
-  pub text : output ≡ text_of listing (length (run_records contents)) firsts
+  pub chain : IsRunChain (asked_of (run_records contents)) tried_turns rounds []
+  pub text : IsListing listing (run_records contents) rounds output
+
+-- where memory was refused some rounds were made, and with any other fault of the files none
+abbrev pub HasMade : List (List ℕ) → List RoundEnd → IdFault → Type 0
+HasMade contents rounds NoMemory = (left : List ℕ)
+    × IsRunChain (asked_of (run_records contents)) tried_turns rounds left
+HasMade contents rounds fault = rounds ≡ []
 
 -- the whole output or a front of it was written, or nothing; `left` is what the inputs have left
-abbrev pub Prints : Listing → List (List ℕ) → Option (List ℕ) → Option (List ℕ)
-    → Option (List ℕ) → Result (Unit {0}) Fault → Type 0
-Prints listing contents left before now (Ok x) =
-    (output : List ℕ) × IsOutput listing contents output × Appends before now output
-Prints listing contents left before now (Err Write) = (output : List ℕ) × (n : ℕ)
-    × IsOutput listing contents output × Appends before now (take n output)
-Prints listing contents left before now (Err BadWords) = Keeps before now
-Prints listing contents left before now (Err (Ids fault)) =
-    SaysOf contents left fault × Keeps before now
+abbrev pub Prints : Listing → List (List ℕ) → List RoundEnd → Option (List ℕ)
+    → Option (List ℕ) → Option (List ℕ) → Result (Unit {0}) Fault → Type 0
+Prints listing contents rounds left before now (Ok x) =
+    (output : List ℕ) × IsOutput listing contents rounds output × Appends before now output
+Prints listing contents rounds left before now (Err Write) = (output : List ℕ) × (n : ℕ)
+    × IsOutput listing contents rounds output × Appends before now (take n output)
+Prints listing contents rounds left before now (Err BadWords) =
+    (rounds ≡ []) × Keeps before now
+Prints listing contents rounds left before now (Err (Ids fault)) =
+    SaysOf contents left fault × HasMade contents rounds fault × Keeps before now
 
 -- the same of the files that the words name
-abbrev pub Ends : Option Files → List (List ℕ) → Option (List ℕ) → Option (List ℕ)
-    → Option (List ℕ) → Result (Unit {0}) Fault → Type 0
-Ends told words left before now ending =
+abbrev pub Ends : Option Files → List (List ℕ) → List RoundEnd → Option (List ℕ)
+    → Option (List ℕ) → Option (List ℕ) → Result (Unit {0}) Fault → Type 0
+Ends told words rounds left before now ending =
     (contents : List (List ℕ)) × AreContents told (files_named words) contents
-    × Prints (list_asked words) contents left before now ending
+    × Prints (list_asked words) contents rounds left before now ending
 
 -- status 2 comes only where the words aren't the command; where they aren't, no other but 1 does
 pub record HasRead (words : List (List ℕ)) (status : ℕ) : Type 0 where
@@ -59,23 +70,25 @@ Said text faults_before faults_now before now =
     ((faults_now ≡ faults_before) × Appends before now text)
     ⊎ (Rose faults_before faults_now × ((n : ℕ) × Appends before now (take n text)))
 
--- a run with this status ended as it says, and the line that tells it was written
-abbrev pub EndsWith : ℕ → Option Files → List (List ℕ) → Option (List ℕ) → Option (List ℕ)
-    → Option (List ℕ) → ℕ → ℕ → Option (List ℕ) → Option (List ℕ) → Type 0
-EndsWith status told words left before now faults_before faults_now said_before said_now =
+-- a run with this status and these rounds ended as it says, and the line that tells it was written
+abbrev pub EndsWith : ℕ → List RoundEnd → Option Files → List (List ℕ) → Option (List ℕ)
+    → Option (List ℕ) → Option (List ℕ) → ℕ → ℕ → Option (List ℕ) → Option (List ℕ) → Type 0
+EndsWith status rounds told words left before now faults_before faults_now said_before said_now =
     (ending : Result (Unit {0}) Fault) × (status ≡ status_of ending)
-    × Ends told words left before now ending
+    × Ends told words rounds left before now ending
     × Said (ending_line ending) faults_before faults_now said_before said_now
 
 -- the output of these files, or what refuses it
-abbrev pub Lists : Listing → List (List ℕ) → Option (List ℕ) → Result (Vec ℕ Global) Fault → Type 0
-Lists listing contents left (Ok text) = IsOutput listing contents text.items
-Lists listing contents left (Err BadWords) = ⊥
-Lists listing contents left (Err Write) = ⊥
-Lists listing contents left (Err (Ids fault)) = SaysOf contents left fault
+abbrev pub Lists : Listing → List (List ℕ) → List RoundEnd → Option (List ℕ)
+    → Result (Vec ℕ Global) Fault → Type 0
+Lists listing contents rounds left (Ok text) = IsOutput listing contents rounds text.items
+Lists listing contents rounds left (Err BadWords) = ⊥
+Lists listing contents rounds left (Err Write) = ⊥
+Lists listing contents rounds left (Err (Ids fault)) =
+    SaysOf contents left fault × HasMade contents rounds fault
 
 -- the same of the files of these names
-abbrev pub ListsFiles : Option Files → List (List ℕ) → Option (List ℕ) → Listing
+abbrev pub ListsFiles : Option Files → List (List ℕ) → List RoundEnd → Option (List ℕ) → Listing
     → Result (Vec ℕ Global) Fault → Type 0
-ListsFiles told names left listing result = (contents : List (List ℕ))
-    × AreContents told names contents × Lists listing contents left result
+ListsFiles told names rounds left listing result = (contents : List (List ℕ))
+    × AreContents told names contents × Lists listing contents rounds left result

@@ -9,7 +9,7 @@ use Rattle.clap.specs.Words.{App, Kinds, Row, Rule, all_of, fault_of, first_of, 
 use Rattle.clap.specs.declared.builder.action.ArgAction.TheVariants.{Append, Set}
 use Rattle.clap.specs.declared.error.kind.ErrorKind.{ErrorKind}
 use Rattle.clap.specs.declared.error.kind.ErrorKind.TheVariants.{OutOfMemory}
-use Rattle.dedup.specs.declared.command.TheConstants.{DEFAULT_ROOM, MAX_ROOM_DIGITS, MAX_WORKERS, MAX_WORKERS_DIGITS}
+use Rattle.dedup.specs.declared.command.TheConstants.{DEFAULT_ROOM, DEFAULT_WORKERS, MAX_ROOM_DIGITS, MAX_WORKERS_DIGITS}
 use Rattle.dedup.specs.declared.command.Command.{Command}
 use Rattle.dedup.specs.declared.command.Listing.{Listing}
 use Rattle.dedup.specs.declared.command.Listing.TheVariants.{Keep, Ids, Count}
@@ -17,7 +17,7 @@ use Rattle.dedup.specs.declared.fault.Fault.{Fault}
 use Rattle.dedup.specs.declared.fault.Fault.TheVariants.{BadWords}
 use Rattle.dedup.specs.declared.fault.Fault.TheVariants as fault
 use Rattle.idfiles.specs.declared.fault.IdFault.TheVariants.{NoMemory}
-use Rattle.dedup.specs.Limits.{most_files, most_room}
+use Rattle.dedup.specs.Limits.{most_files, most_room, most_workers}
 
 -- the words as bytes
 abbrev pub texts : List (String Global) → List (List ℕ)
@@ -62,9 +62,9 @@ number_in digits least most value = if is_numeral digits value
     && (nat_le least (digits_value 10 value) && nat_le (digits_value 10 value) most)
     then Some (digits_value 10 value) else None
 
--- whether a value writes the number of workers
-abbrev pub is_worker_count : List ℕ → Bool
-is_worker_count value = is_some (number_in MAX_WORKERS_DIGITS 1 MAX_WORKERS value)
+-- the number of workers that a value writes
+abbrev pub workers_written : List ℕ → Option ℕ
+workers_written value = number_in MAX_WORKERS_DIGITS 1 most_workers value
 
 -- whether a value names the way in which calls are made, of which there is one
 abbrev pub is_way : List ℕ → Bool
@@ -80,9 +80,10 @@ listing_named value = if bytes_eq value (codes "keep") then Some Keep else
     (if bytes_eq value (codes "ids") then Some Ids else
     (if bytes_eq value (codes "count") then Some Count else None))
 
--- whether the number of workers is 1, as it also is where none is given
-abbrev pub has_one_worker : List Row → Bool
-has_one_worker rows = option_map_or is_worker_count (first_of (codes "workers") rows) true
+-- the number of workers that is asked for, the default where none is given
+abbrev pub workers_in : List Row → Option ℕ
+workers_in rows =
+    option_map_or workers_written (first_of (codes "workers") rows) (Some DEFAULT_WORKERS)
 
 -- whether the way is the one that there is, as it also is where none is given
 abbrev pub has_one_way : List Row → Bool
@@ -106,12 +107,16 @@ is_file_count count = nat_lt 0 count && nat_le count most_files
 
 -- whether each option and FILE has the values that it takes
 abbrev pub are_values : List Row → Bool
-are_values rows = has_one_worker rows && (has_one_way rows && (is_some (room_in rows)
+are_values rows = has_one_way rows && (is_some (workers_in rows) && (is_some (room_in rows)
     && (is_some (listing_in rows) && is_file_count (length (files_in rows)))))
 
 -- Whether the words are the command. The first of them is the program's name, whatever it is.
 abbrev pub is_command : List (List ℕ) → Bool
 is_command words = is_read words && are_values (rows_in words)
+
+-- the number of workers that the command asks for
+abbrev pub workers_asked : List (List ℕ) → ℕ
+workers_asked words = unwrap_or (workers_in (rows_in words)) DEFAULT_WORKERS
 
 -- the room of a round that the command asks for
 abbrev pub room_asked : List (List ℕ) → ℕ
@@ -127,6 +132,8 @@ files_named words = files_in (rows_in words)
 
 -- what a command asks for keeps to the limits
 pub record KeepsLimits (asked : Command) : Type 0 where
+  pub some_worker : 1 ≤ asked.workers
+  pub workers : asked.workers ≤ most_workers
   pub room : asked.room ≤ most_room
   pub files : length asked.files.items ≤ most_files
 

@@ -8,13 +8,17 @@
 #![tactic(auto)]
 
 mod command;
+mod crew;
 mod fault;
 mod load;
+mod one_round;
 mod output;
+mod phase;
 mod program;
-mod steps;
-mod table;
+mod settle;
+mod so_far;
 mod words;
+mod worker;
 
 pub use program::{Ended, out_of_memory, run};
 

@@ -4,12 +4,10 @@ ghost use Rattle.idfiles.specs.Answer.{HasReadCause};
 ghost use Rattle.dedup.specs.Inputs.{AnswersFiles};
 ghost use Rattle.dedup.specs.Limits.{most_files, most_records};
 
+use crate::command::MAX_RECORDS;
 use idfiles::{IdFault, IdRecord, append_ids};
 use outside::Inputs;
 use std::alloc::Global;
-
-/// The most records of a run.
-pub(crate) const MAX_RECORDS: usize = 2048;
 
 /// The records of the files, in order of file and line, or the first fault in the order of their
 /// bytes. The files are numbered from 1.

@@ -1,51 +1,80 @@
 // The output as one text.
-ghost use Rattle.std.specs.Prelude.{◌≡◌, ◌≤◌, IfOk, take};
-ghost use Rattle.dedup.specs.Output as spec;
+ghost use Rattle.std.specs.Prelude.{◌≡◌, ℕ, ◌<◌, [], List, All, IfOk, flat_map, length};
+ghost use Rattle.chain.specs.Chain.{RoundEnd};
+ghost use Rattle.dedup.specs.Output.{IsListing, kept_line};
+ghost use Rattle.dedup.specs.Records.{AreSorted};
+ghost use Rattle.dedup.specs.Rounds.{HasInserted};
+ghost use Rattle.idfiles.specs.Print.{count_line, id_line};
 
 use crate::command::Listing;
+use crate::phase::Inserted;
 use idfiles::{IdRecord, count_line, id_line, keep_line};
 use set_model::NoMemory;
 use std::alloc::Global;
 
-/// The text of the list: of the first records, or of their number and that of all records.
+/// The text of the list that is asked for.
 pub(crate) fn text_of(
     alloc: Global,
     listing: Listing,
-    records: u64,
-    firsts: &[IdRecord],
+    records: &[IdRecord],
+    inserted: &Inserted,
 ) -> Result<Vec<u8>, NoMemory>
-    ensures { IfOk result (λ text. text.items ≡ spec.text_of listing records firsts.now) }
+    requires { All (λ number. number < length records.now) inserted.now.changing.items }
+    ensures { IfOk result (λ text. (rounds : List RoundEnd) (turns : ℕ)
+        → HasInserted records.now turns rounds inserted.now.keys.items []
+        inserted.now.changing.items → IsListing listing records.now rounds text.items) }
+{
+    match listing {
+        Listing::Keep => kept_text(alloc, &kept(alloc, records, &inserted.changing)?),
+        Listing::Ids => ids_text(alloc, &inserted.keys),
+        Listing::Count => counts_text(alloc, records.len() as u64, inserted.keys.len() as u64),
+    }
+}
+
+// The records with these numbers, by their ids.
+fn kept(alloc: Global, records: &[IdRecord], numbers: &[u32]) -> Result<Vec<IdRecord>, NoMemory>
+    requires { All (λ number. number < length records.now) numbers.now }
+    ensures { IfOk result (λ kept. AreSorted records.now numbers.now kept.items) }
+{
+    let mut kept = Vec::with_capacity(alloc, numbers.len())?;
+    for number in numbers {
+        kept.push(records[*number as usize])?;
+    }
+    kept.sort_unstable_by_key(|record| record.id);
+    Ok(kept)
+}
+
+// A line for each record.
+fn kept_text(alloc: Global, kept: &[IdRecord]) -> Result<Vec<u8>, NoMemory>
+    ensures { IfOk result (λ text. text.items ≡ flat_map kept_line kept.now) }
 {
     let mut text = Vec::new(alloc);
     let mut buf = [0u8; 64];
-    for first in firsts {
-        let len = line(listing, first, &mut buf);
+    for record in kept {
+        let len = keep_line(record.id, record.file, record.line, &mut buf);
         text.extend_from_slice(&buf[..len])?;
     }
-    let len = end_line(listing, records, firsts.len() as u64, &mut buf);
-    text.extend_from_slice(&buf[..len])?;
     Ok(text)
 }
 
-// Writes the line of a first record to the front of the buffer, and gives the number of bytes.
-fn line(listing: Listing, first: &IdRecord, buf: &mut [u8; 64]) -> usize
-    ensures length { result ≤ 64 }
-    ensures text { take result buf.new ≡ spec.line_in listing first.now }
+// A line for each id.
+fn ids_text(alloc: Global, ids: &[u64]) -> Result<Vec<u8>, NoMemory>
+    ensures { IfOk result (λ text. text.items ≡ flat_map id_line ids.now) }
 {
-    match listing {
-        Listing::Keep => keep_line(first.id, first.file, first.line, buf),
-        Listing::Ids => id_line(first.id, buf),
-        Listing::Count => 0,
+    let mut text = Vec::new(alloc);
+    let mut buf = [0u8; 64];
+    for id in ids {
+        let len = id_line(*id, &mut buf);
+        text.extend_from_slice(&buf[..len])?;
     }
+    Ok(text)
 }
 
-// The same of the line behind them.
-fn end_line(listing: Listing, records: u64, ids: u64, buf: &mut [u8; 64]) -> usize
-    ensures length { result ≤ 64 }
-    ensures text { take result buf.new ≡ spec.end_line_in listing records ids }
+// The line of the numbers.
+fn counts_text(alloc: Global, records: u64, ids: u64) -> Result<Vec<u8>, NoMemory>
+    ensures { IfOk result (λ text. text.items ≡ count_line records ids) }
 {
-    match listing {
-        Listing::Keep | Listing::Ids => 0,
-        Listing::Count => count_line(records, ids, buf),
-    }
+    let mut buf = [0u8; 64];
+    let len = count_line(records, ids, &mut buf);
+    Ok(Vec::from_slice(alloc, &buf[..len])?)
 }

@@ -4,13 +4,15 @@ use std::test::Fail;
 
 mod faults;
 mod fixture;
+mod rooms;
 mod words;
+mod workers;
 
-const IDS: [&str; 4] = ["dedup", "--list", "ids", "f"];
+const IDS: [&str; 6] = ["dedup", "--room", "1000", "--list", "ids", "f"];
 
 #[test]
 fn prints_each_id_once(rt: HostRuntime) -> Result<(), Fail> {
-    let cases: [(&[&str], &[u8], &[u8], &[u8]); 11] = [
+    let cases: [(&[&str], &[u8], &[u8], &[u8]); 13] = [
         (&IDS, b"3\n1\n3\n", b"", b"1\n3\n"),
         (&IDS, b"", b"", b""),
         (&IDS, b"007\n \t\n\n7\r\n9", b"", b"7\n9\n"),
@@ -20,7 +22,33 @@ fn prints_each_id_once(rt: HostRuntime) -> Result<(), Fail> {
             b"",
             b"0\n18446744073709551615\n",
         ),
-        (&["dedup", "f"], b"5\n5\n7\n", b"", b"5 1:1\n7 1:3\n"),
+        (
+            &["dedup", "--workers", "1", "f"],
+            b"5\n5\n7\n",
+            b"",
+            b"5 1:1\n7 1:3\n",
+        ),
+        (
+            &["dedup", "--list", "ids", "f", "g"],
+            b"1726482093751209984\n1726482093751209985\n",
+            b"1726482093751209985\n42\n",
+            b"42\n1726482093751209984\n1726482093751209985\n",
+        ),
+        (
+            &[
+                "dedup",
+                "--way",
+                "try",
+                "--workers=1",
+                "--room",
+                "1000",
+                "f",
+                "g",
+            ],
+            b"98\n99\n",
+            b"99\n42\n",
+            b"42 2:2\n98 1:1\n99 1:2\n",
+        ),
         (
             &["dedup", "--workers", "1", "f"],
             b"1\n \t\n2",
@@ -34,19 +62,27 @@ fn prints_each_id_once(rt: HostRuntime) -> Result<(), Fail> {
             b"5 1:1\n7 1:3\n9 2:2\n",
         ),
         (
-            &["dedup", "f", "g"],
+            &["dedup", "--workers", "1", "--room", "1000", "f", "g"],
             b"9\n\n5\n",
             b"5\n2\n9\n",
             b"2 2:2\n5 1:3\n9 1:1\n",
         ),
         (
-            &["dedup", "g", "--list=keep", "f"],
+            &[
+                "dedup",
+                "g",
+                "--list=keep",
+                "--room=1000",
+                "--workers",
+                "1",
+                "f",
+            ],
             b"9\n",
             b"9\n",
             b"9 1:1\n",
         ),
         (
-            &["dedup", "f", "f", "--list", "count"],
+            &["dedup", "f", "f", "--room", "1000", "--list", "count"],
             b"5\n6\n",
             b"",
             b"records 4 distinct 2\n",
@@ -113,35 +149,15 @@ fn the_first_fault_of_the_files_is_told(rt: HostRuntime) -> Result<(), Fail> {
 }
 
 #[test]
-fn a_run_has_at_most_2048_records(rt: HostRuntime) -> Result<(), Fail> {
-    let mut file = Vec::new(rt.alloc());
-    for _ in 0..2048 {
-        file.extend_from_slice(b"1\n")?;
-    }
-    let words = ["dedup", "--list", "count", "f", "g"];
-    let within = run_on(&rt, rt.alloc(), &words, &file, b"\n", &NONE)?;
-    assert_eq!(rt; within.status, 0);
-    assert_eq!(rt; within.out.bytes(), b"records 2048 distinct 1\n".as_slice());
-
-    let past = run_on(&rt, rt.alloc(), &words, &file, b"1\n", &NONE)?;
-    assert_eq!(rt; past.status, 6);
-    assert!(rt; past.out.bytes().is_empty());
-    assert_eq!(rt;
-        past.faults.bytes(),
-        b"dedup: too many records\n".as_slice()
-    );
-    Ok(())
-}
-
-#[test]
 fn words_that_are_not_the_command_are_bad(rt: HostRuntime) -> Result<(), Fail> {
-    let cases: [&[&str]; 7] = [
+    let cases: [&[&str]; 8] = [
         &[],
         &["dedup"],
         &["dedup", "--help"],
         &["dedup", "--workers", "0", "f"],
         &["dedup", "--make", "5:1", "f"],
         &["dedup", "--room", "x", "f"],
+        &["dedup", "--way", "helped", "f"],
         &["dedup", "--calls", "--list", "ids", "f"],
     ];
     for words in cases {

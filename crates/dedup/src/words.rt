@@ -3,15 +3,16 @@ ghost use Rattle.std.specs.Prelude.{◌≡◌, ◌≤◌, IfOk, IfErr, IfSome, t
 ghost use Rattle.std.specs.Char.{is_ascii_digit};
 ghost use Rattle.std.specs.List.{list_all};
 ghost use Rattle.clap.specs.Words.{app_of, found_of, rows_of, rule_of};
-ghost use Rattle.dedup.specs.Limits.{most_room};
+ghost use Rattle.dedup.specs.Limits.{most_room, most_workers};
 ghost use Rattle.dedup.specs.Words.{KeepsLimits, MayRefuse, dedup_app, fault_of_kind, file_rule};
-ghost use Rattle.dedup.specs.Words.{files_in, files_named, has_one_way, has_one_worker, is_command};
-ghost use Rattle.dedup.specs.Words.{is_file_count, is_read, list_asked, listing_in, listing_named};
-ghost use Rattle.dedup.specs.Words.{number_in, option_rule, room_asked, room_in, rows_in, texts};
+ghost use Rattle.dedup.specs.Words.{files_in, files_named, has_one_way, is_command, is_file_count};
+ghost use Rattle.dedup.specs.Words.{is_read, list_asked, listing_in, listing_named, number_in};
+ghost use Rattle.dedup.specs.Words.{option_rule, room_asked, room_in, rows_in, texts};
+ghost use Rattle.dedup.specs.Words.{workers_asked, workers_in};
 
 use crate::command::{
-    Command, DEFAULT_ROOM, Listing, MAX_FILES, MAX_ROOM, MAX_ROOM_DIGITS, MAX_WORKERS,
-    MAX_WORKERS_DIGITS,
+    Command, DEFAULT_ROOM, DEFAULT_WORKERS, Listing, MAX_FILES, MAX_ROOM, MAX_ROOM_DIGITS,
+    MAX_WORKERS, MAX_WORKERS_DIGITS,
 };
 use crate::fault::Fault;
 use clap::error::ErrorKind;
@@ -22,6 +23,7 @@ use std::alloc::{AllocError, Global};
 /// What the words ask for. The first of them is the program's name, whatever it is.
 pub(crate) fn read_words<'a>(alloc: Global, words: &'a [String]) -> Result<Command<'a>, Fault>
     ensures words { IfOk result (λ _. is_command (texts words.now) ≡ true) }
+    ensures workers { IfOk result (λ asked. asked.workers ≡ workers_asked (texts words.now)) }
     ensures room { IfOk result (λ asked. asked.room ≡ room_asked (texts words.now)) }
     ensures listing { IfOk result (λ asked. asked.listing ≡ list_asked (texts words.now)) }
     ensures files { IfOk result (λ asked. map (λ name. name.now) asked.files.items
@@ -30,9 +32,12 @@ pub(crate) fn read_words<'a>(alloc: Global, words: &'a [String]) -> Result<Comma
     ensures refused { IfErr result (MayRefuse (is_command (texts words.now))) }
 {
     let matches = parsed(alloc, words)?;
-    if !has_one_worker(&matches) || !has_one_way(&matches) {
+    if !has_one_way(&matches) {
         return Err(Fault::BadWords);
     }
+    let Some(workers) = workers_in(&matches) else {
+        return Err(Fault::BadWords);
+    };
     let Some(room) = room_in(&matches) else {
         return Err(Fault::BadWords);
     };
@@ -41,6 +46,7 @@ pub(crate) fn read_words<'a>(alloc: Global, words: &'a [String]) -> Result<Comma
     };
     let files = files_in(alloc, &matches)?;
     Ok(Command {
+        workers: workers as u32,
         room,
         listing,
         files,
@@ -93,21 +99,23 @@ fn fault_of(kind: ErrorKind) -> Fault
     }
 }
 
-fn has_one_worker(matches: &ArgMatches<'_>) -> bool
-    ensures { result ≡ has_one_worker (rows_of (found_of matches.now)) }
-{
-    match matches.get_str("workers") {
-        Some(value) => number_in(value, MAX_WORKERS_DIGITS, 1, MAX_WORKERS).is_some(),
-        None => true,
-    }
-}
-
 fn has_one_way(matches: &ArgMatches<'_>) -> bool
     ensures { result ≡ has_one_way (rows_of (found_of matches.now)) }
 {
     match matches.get_str("way") {
         Some(value) => value == "try",
         None => true,
+    }
+}
+
+fn workers_in(matches: &ArgMatches<'_>) -> Option<u64>
+    ensures value { result ≡ workers_in (rows_of (found_of matches.now)) }
+    ensures some { IfSome result (λ workers. 1 ≤ workers) }
+    ensures fits { IfSome result (λ workers. workers ≤ most_workers) }
+{
+    match matches.get_str("workers") {
+        Some(value) => number_in(value, MAX_WORKERS_DIGITS, 1, MAX_WORKERS),
+        None => Some(DEFAULT_WORKERS),
     }
 }
 

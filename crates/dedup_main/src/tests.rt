@@ -90,7 +90,12 @@ fn a_process_ends_as_its_run(rt: HostRuntime) -> Result<(), Fail> {
     fs::write(&rt, "dedup_main_f", b"3\n1\n3\n".as_slice())?;
     fs::write(&rt, "dedup_main_g", b"2\n1\n".as_slice())?;
     let cases: [(&[&[u8]], u8, &[u8], &[u8]); 8] = [
-        (&[b"dedup", b"dedup_main_f"], 0, b"1 1:2\n3 1:1\n", b""),
+        (
+            &[b"dedup", b"--workers", b"1", b"dedup_main_f"],
+            0,
+            b"1 1:2\n3 1:1\n",
+            b"",
+        ),
         (
             &[
                 b"dedup",

@@ -1,6 +1,6 @@
 // Each call that can fail, failing in turn.
 use super::IDS;
-use super::fixture::{Fails, NONE, run_on, sink};
+use super::fixture::{BYTES, Fails, NONE, PIECES, run_on, run_sized, sink};
 use crate::out_of_memory;
 use std::test::Fail;
 
@@ -62,6 +62,43 @@ fn each_failed_write_leaves_a_front_of_the_output(rt: HostRuntime) -> Result<(),
 }
 
 #[test]
+fn a_read_that_fails_between_large_pieces_ends_the_run(rt: HostRuntime) -> Result<(), Fail> {
+    let mut file = Vec::new(rt.alloc());
+    for _ in 0..20_000 {
+        file.extend_from_slice(b"1234567\n")?;
+    }
+    // The start is call 0; of the 160,000 bytes come three pieces, and call 4 finds the end.
+    let words = ["dedup", "--list", "ids", "f"];
+    for call in 0..6 {
+        let fails = Fails {
+            inputs: call,
+            ..NONE
+        };
+        let outcome = run_sized(&rt, rt.alloc(), &words, (&file, b""), &fails, PIECES)?;
+        let (status, out, line): (u8, &[u8], &[u8]) = match call {
+            5 => (0, b"1234567\n", b""),
+            _ => (4, b"", b"dedup: read fault in file 1\n"),
+        };
+        assert_eq!(rt; outcome.status, status, "at call {call}");
+        assert_eq!(rt; outcome.out.bytes(), out, "at call {call}");
+        assert_eq!(rt; outcome.faults.bytes(), line, "at call {call}");
+        // Nothing is put into a set before all is read.
+        assert_eq!(rt; outcome.ended.closings.len(), if call == 5 { 1 } else { 0 });
+    }
+    Ok(())
+}
+
+#[test]
+fn a_run_whose_output_fails_has_its_rounds(rt: HostRuntime) -> Result<(), Fail> {
+    let fails = Fails { out: 0, ..NONE };
+    let outcome = run_on(&rt, rt.alloc(), &IDS, b"3\n1\n3\n", b"", &fails)?;
+    assert_eq!(rt; outcome.status, 5);
+    assert_eq!(rt; outcome.ended.closings.len(), 1);
+    assert_eq!(rt; outcome.ended.made.len(), 1);
+    Ok(())
+}
+
+#[test]
 fn a_fault_in_the_fault_line_changes_no_status(rt: HostRuntime) -> Result<(), Fail> {
     let fails = Fails { faults: 0, ..NONE };
     let read = Fails { inputs: 1, ..fails };
@@ -99,8 +136,8 @@ fn refused_memory_ends_the_run_with_nothing_printed(rt: HostRuntime) -> Result<(
 
 #[test]
 fn words_that_could_not_be_had_are_want_of_memory(rt: HostRuntime) -> Result<(), Fail> {
-    let mut faults = sink(rt.alloc(), u64::MAX)?;
-    assert_eq!(rt; out_of_memory(&mut faults).status, 1);
+    let mut faults = sink(rt.alloc(), u64::MAX, BYTES)?;
+    assert_eq!(rt; out_of_memory(&mut faults), 1);
     assert_eq!(rt; faults.bytes(), b"dedup: out of memory\n".as_slice());
     Ok(())
 }

@@ -1,9 +1,9 @@
 // A run over files in memory, and what it came to.
-ghost use Rattle.std.specs.Prelude.{IfOk, IsTrue};
+ghost use Rattle.std.specs.Prelude.{◌<◌, IfOk, IsTrue};
 ghost use Rattle.outside.specs.Files.{files_of, names_differ};
 
-use crate::run;
-use outside::{MemInputs, MemSink, OpenGate};
+use crate::{Ended, run};
+use outside::{Gate, MemInputs, MemSink, OpenGate};
 use std::alloc::Global;
 use std::test::Fail;
 use std::thread::Threads;
@@ -22,16 +22,37 @@ pub(super) const NONE: Fails = Fails {
     faults: u64::MAX,
 };
 
-// A run's status, and what it wrote on the out sink and on the fault sink.
+// How much the inputs give and the sinks take in one call, and how much the sinks take in all.
+#[derive(Clone, Copy)]
+pub(super) struct Sizes {
+    pub(super) piece: usize,
+    pub(super) space: usize,
+}
+
+pub(super) const BYTES: Sizes = Sizes {
+    piece: 1,
+    space: 64,
+};
+
+pub(super) const PIECES: Sizes = Sizes {
+    piece: 1 << 16,
+    space: 1 << 16,
+};
+
+// A run's end, and what it wrote on the out sink and on the fault sink.
 #[derive(Drop)]
 pub(super) struct Outcome {
     pub(super) status: u8,
+    pub(super) ended: Ended,
     pub(super) out: MemSink,
     pub(super) faults: MemSink,
 }
 
-pub(super) fn sink(alloc: Global, fails: u64) -> Result<MemSink, Fail> {
-    Ok(MemSink::new(vec![in alloc; 0u8; 64]?, vec![in alloc; fails]?, 1))
+pub(super) fn sink(alloc: Global, fails: u64, sizes: Sizes) -> Result<MemSink, Fail>
+    requires { 0 < sizes.piece }
+{
+    let space = vec![in alloc; 0u8; sizes.space]?;
+    Ok(MemSink::new(space, vec![in alloc; fails]?, sizes.piece))
 }
 
 // The files `f` and `g`.
@@ -53,25 +74,47 @@ pub(super) fn run_on(
     g: &[u8],
     fails: &Fails,
 ) -> Result<Outcome, Fail> {
+    run_sized(rt, alloc, words, (f, g), fails, BYTES)
+}
+
+// The same with other sizes.
+pub(super) fn run_sized(
+    rt: &(impl Threads + Sync),
+    alloc: Global,
+    words: &[&str],
+    files: (&[u8], &[u8]),
+    fails: &Fails,
+    sizes: Sizes,
+) -> Result<Outcome, Fail>
+    requires { 0 < sizes.piece }
+{
+    run_gated(rt, alloc, words, files, fails, (sizes, &OpenGate))
+}
+
+// The same under a gate.
+pub(super) fn run_gated<G: Gate>(
+    rt: &(impl Threads + Sync),
+    alloc: Global,
+    words: &[&str],
+    files: (&[u8], &[u8]),
+    fails: &Fails,
+    under: (Sizes, &G),
+) -> Result<Outcome, Fail>
+    requires { 0 < under.0.piece }
+{
+    let (sizes, gate) = under;
     let mut owned = Vec::new(alloc);
     for word in words {
         owned.push(String::from_str(alloc, word)?)?;
     }
-    let files = two_files(alloc, f, g)?;
-    let mut inputs = MemInputs::new(files, vec![in alloc; fails.inputs]?, 1);
-    let mut out = sink(alloc, fails.out)?;
-    let mut faults = sink(alloc, fails.faults)?;
-    let ended = run(
-        rt,
-        alloc,
-        &owned,
-        &mut inputs,
-        &mut out,
-        &mut faults,
-        &OpenGate,
-    );
+    let files = two_files(alloc, files.0, files.1)?;
+    let mut inputs = MemInputs::new(files, vec![in alloc; fails.inputs]?, sizes.piece);
+    let mut out = sink(alloc, fails.out, sizes)?;
+    let mut faults = sink(alloc, fails.faults, sizes)?;
+    let ended = run(rt, alloc, &owned, &mut inputs, &mut out, &mut faults, gate);
     Ok(Outcome {
         status: ended.status,
+        ended,
         out,
         faults,
     })

@@ -26,6 +26,15 @@ fn answer_to(alloc: Global, words: &[&str]) -> Result<String, Fail> {
     }
 }
 
+// The number of workers that these words behind the program's name ask for, none where bad.
+fn workers_of(alloc: Global, words: &[&str]) -> Result<Option<u32>, Fail> {
+    match read_words(alloc, &words_of_run(alloc, words)?) {
+        Ok(asked) => Ok(Some(asked.workers)),
+        Err(Fault::BadWords) => Ok(None),
+        Err(_) => Err(AllocError.into()),
+    }
+}
+
 // The room that these words behind the program's name ask for, none where they are bad.
 fn room_of(alloc: Global, words: &[&str]) -> Result<Option<u64>, Fail> {
     match read_words(alloc, &words_of_run(alloc, words)?) {
@@ -61,7 +70,7 @@ fn reads_the_command_and_nothing_else(rt: HostRuntime) -> Result<(), Fail> {
         (&["--list=", "f"], "bad words"),
         (&["--workers", "0001", "f"], "bad words"),
         (&["--workers", "0", "f"], "bad words"),
-        (&["--workers", "2", "f"], "bad words"),
+        (&["--workers", "64", "f"], "Keep: f"),
         (&["--workers", "1x", "f"], "bad words"),
         (&["--workers", "+1", "f"], "bad words"),
         (&["--workers", "", "f"], "bad words"),
@@ -86,6 +95,40 @@ fn reads_the_command_and_nothing_else(rt: HostRuntime) -> Result<(), Fail> {
             answer,
             "at {words:?}"
         );
+    }
+    Ok(())
+}
+
+#[test]
+fn workers_are_1_to_64_in_3_digits_at_most(rt: HostRuntime) -> Result<(), Fail> {
+    let cases: [(&[&str], Option<u32>); 24] = [
+        (&["f"], Some(4)),
+        (&["--workers", "1", "f"], Some(1)),
+        (&["--workers=5", "f"], Some(5)),
+        (&["f", "--workers", "12", "--list", "ids", "g"], Some(12)),
+        (&["--workers", "63", "f"], Some(63)),
+        (&["--workers", "64", "f"], Some(64)),
+        (&["--workers", "001", "f"], Some(1)),
+        (&["--workers", "064", "f"], Some(64)),
+        (&["--", "--workers", "5"], Some(4)),
+        (&["--workers", "0", "f"], None),
+        (&["--workers", "000", "f"], None),
+        (&["--workers", "65", "f"], None),
+        (&["--workers", "257", "f"], None),
+        (&["--workers", "999", "f"], None),
+        (&["--workers", "0001", "f"], None),
+        (&["--workers", "4294967297", "f"], None),
+        (&["--workers", "x", "f"], None),
+        (&["--workers", "5x", "f"], None),
+        (&["--workers", "+1", "f"], None),
+        (&["--workers=-1", "f"], None),
+        (&["--workers", "", "f"], None),
+        (&["--workers=", "f"], None),
+        (&["f", "--workers"], None),
+        (&["--workers", "5", "--workers", "5", "f"], None),
+    ];
+    for (words, workers) in cases {
+        assert_eq!(rt; workers_of(rt.alloc(), words)?, workers, "at {words:?}");
     }
     Ok(())
 }

@@ -1,0 +1,71 @@
+use Rattle.std.proofs.Common.{◌≡◌, ◌<◌, List, [], Err, length, rules, sym, ap, ◌∙◌, subst}
+use Rattle.std.specs.List.{All}
+use Rattle.idfiles.specs.declared.fault.IdFault.TheVariants.{NoMemory}
+use Rattle.idfiles.specs.declared.id_record.IdRecord.{IdRecord}
+use Rattle.dedup.specs.Rounds.{HasInserted}
+use Rattle.dedup.specs.Run.{ListsFiles}
+use Rattle.dedup.specs.declared.fault.Fault.TheVariants.{Ids}
+use Rattle.dedup.proofs.LawEnds.{lists_all, lists_refused, lists_unread, names_of}
+use Rattle.dedup.proofs.LawKept.{changing_below}
+use Rattle.dedup.proofs.program.list_of.Goals as goal
+
+-- the files were refused
+pub returns-in_err-records-clause-lists : goal.returns-in_err-records-clause-lists
+returns-in_err-records-clause-lists g c =
+    let told = g.I.Inputs.files c.args.inputs.now in
+    let left = g.I.Inputs.left c.load.new.inputs in
+    let files = c.args.asked.now.files.items in
+    let fault = c.in_err-records.field-0.0 in
+    let is : c.from_residual.result ≡ Err (Ids fault) = search rules in
+    subst (ListsFiles told (names_of files) c.args.so_far.now left c.args.asked.now.listing) (sym is)
+    (lists_unread told left c.deref.result.now files c.deref.ensures.value c.args.so_far.now c.args.asked.now.listing fault
+    c.requires.none c.in_err-records.ensures.answer)
+
+-- memory was refused in a round
+pub returns-in_err-inserted-clause-lists : goal.returns-in_err-inserted-clause-lists
+returns-in_err-inserted-clause-lists g c =
+    let told = g.I.Inputs.files c.args.inputs.now in
+    let left = g.I.Inputs.left c.load.new.inputs in
+    let files = c.args.asked.now.files.items in
+    let rounds = c.insert_all.new.so_far in
+    let is : c.from_residual-in_err-inserted.result ≡ Err (Ids NoMemory) = search rules in
+    subst (ListsFiles told (names_of files) rounds left c.args.asked.now.listing) (sym is)
+    (lists_refused told left c.deref.result.now files c.deref.ensures.value rounds c.args.asked.now.listing c.in_ok-records.records
+    c.in_ok-records.ensures.answer c.deref-2.result.now c.deref-2.ensures.value c.plan.result.fast (ap (λ plan. plan.fast) c.plan.ensures)
+    c.in_err-inserted.ensures.chain)
+
+-- the numbers are those of records
+pub text_of-requires : goal.text_of-requires
+text_of-requires g c =
+    subst (λ (all : List IdRecord). All (λ number. number < length all) c.in_ok-inserted.inserted.changing.items)
+    (c.deref-2.ensures.value ∙ sym c.deref-3.ensures.value) (changing_below c.in_ok-inserted.ensures.inserted)
+
+-- memory was refused for the text
+pub returns-in_err-text_of-clause-lists : goal.returns-in_err-text_of-clause-lists
+returns-in_err-text_of-clause-lists g c =
+    let told = g.I.Inputs.files c.args.inputs.now in
+    let left = g.I.Inputs.left c.load.new.inputs in
+    let files = c.args.asked.now.files.items in
+    let rounds = c.insert_all.new.so_far in
+    let is : c.from_residual-in_err-text_of.result ≡ Err (Ids NoMemory) = search rules in
+    subst (ListsFiles told (names_of files) rounds left c.args.asked.now.listing) (sym is)
+    (lists_refused told left c.deref.result.now files c.deref.ensures.value rounds c.args.asked.now.listing c.in_ok-records.records
+    c.in_ok-records.ensures.answer c.deref-2.result.now c.deref-2.ensures.value c.plan.result.fast (ap (λ plan. plan.fast) c.plan.ensures)
+    c.in_ok-inserted.ensures.chain)
+
+-- the list was made
+pub returns-clause-lists : goal.returns-clause-lists
+returns-clause-lists g c =
+    let told = g.I.Inputs.files c.args.inputs.now in
+    let left = g.I.Inputs.left c.load.new.inputs in
+    let files = c.args.asked.now.files.items in
+    let rounds = c.insert_all.new.so_far in
+    let fast = c.plan.result.fast in
+    let seen = c.deref-3.result.now in
+    let inserted : HasInserted seen fast rounds c.in_ok-inserted.inserted.keys.items [] c.in_ok-inserted.inserted.changing.items =
+    subst (λ (all : List IdRecord). HasInserted all fast rounds c.in_ok-inserted.inserted.keys.items []
+    c.in_ok-inserted.inserted.changing.items) (c.deref-2.ensures.value ∙ sym c.deref-3.ensures.value)
+    c.in_ok-inserted.ensures.inserted in
+    lists_all told left c.deref.result.now files c.deref.ensures.value rounds c.args.asked.now.listing c.in_ok-records.records
+    c.in_ok-records.ensures.answer seen c.deref-3.ensures.value fast c.in_ok-text_of.field-0 (ap (λ plan. plan.fast) c.plan.ensures)
+    inserted.chain (c.in_ok-text_of.ensures rounds fast inserted)

@@ -8,6 +8,13 @@ BINDIR = $(PREFIX)/bin
 MANDIR = $(PREFIX)/share/man
 ARGS =
 
+# what `make bench` measures, and the folder that it keeps its files in
+SIZES = 1000000 16000000
+RUNS = 5
+WORKERS = 1 2 4
+LISTS = ids keep count
+BENCH_DIR = bench/out
+
 CRATES := $(shell sed -n 's/\#.*//; s/^\([a-z0-9_]\{1,\}\)[^:]*:.*/\1/p' crates.txt)
 PROGRAMS := $(patsubst %_main,%,$(filter %_main,$(CRATES)))
 
@@ -18,7 +25,7 @@ files_of = $(shell find crates/$(1)/src crates/$(1)/specs crates/$(1)/proofs 2>/
 # where the program $(1) lies
 built = crates/$(1)_main/out/$(1)_main
 
-.PHONY: help run check install uninstall $(PROGRAMS) $(PROGRAMS:%=install-%) $(PROGRAMS:%=uninstall-%)
+.PHONY: help run check bench install uninstall $(PROGRAMS) $(PROGRAMS:%=install-%) $(PROGRAMS:%=uninstall-%)
 
 help:
 	@$(foreach program,$(PROGRAMS),printf '%-24s %s\n' 'make $(program) ARGS="..."' \
@@ -27,11 +34,17 @@ help:
 	@echo 'make install             put the programs and their pages below PREFIX, which is $(PREFIX)'
 	@echo 'make uninstall           take them away'
 	@echo 'make check               prove everything, try the wrong bodies, run all tests and programs'
+	@echo 'make bench               measure dedup beside sort, awk and hash sets; bench/README.md says how'
 
 run: dedup
 
 check:
 	rt ci
+
+# -B: python keeps nothing beside the scripts
+bench: $(call built,dedup)
+	@python3 -B bench/run.py --dedup $< --folder "$(BENCH_DIR)" --sizes $(SIZES) --runs $(RUNS) \
+	--workers $(WORKERS) --lists $(LISTS)
 
 install: $(PROGRAMS:%=install-%)
 

@@ -3,6 +3,5 @@ pub mod Calls
 pub mod Histories
 pub mod Change
 pub mod Each
-pub mod Keys
 pub mod Places
 pub mod Rising

@@ -1,8 +1,6 @@
-pub mod Drawn
 pub mod Head
 pub mod Shown
-pub mod Single
+pub mod Content
 pub mod Spots
-pub mod Steps
 pub mod Held
 pub mod Members

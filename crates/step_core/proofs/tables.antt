@@ -14,5 +14,4 @@ pub mod Blocks
 pub mod Fitting
 pub mod Members
 pub mod Rows
-pub mod OneRow
 pub mod Held

@@ -1,12 +1,10 @@
 pub mod Buckets
 pub mod Content
-pub mod Drawn
 pub mod Fits
 pub mod Format
 pub mod Openings
 pub mod Plain
 pub mod Rising
-pub mod Single
 pub mod States
 pub mod Steps
 pub mod Plans

@@ -1,9 +1,6 @@
-ghost use Rattle.std.specs.Prelude.{◌≡◌, ◌+◌, ◌≤◌, ◌∷◌, [], length, replicate, IfOk};
-ghost use Rattle.step_core.specs.Drawn.{HasReplaced};
+ghost use Rattle.std.specs.Prelude.{◌≡◌, ◌∷◌, [], replicate, IfOk};
 ghost use Rattle.step_core.specs.Fits.{IsWellFormed};
-ghost use Rattle.step_core.specs.Format.{next_of};
 ghost use Rattle.step_core.specs.Plain.{HasPlainRows};
-ghost use Rattle.step_core.specs.Single.{HasOneBucket};
 
 use super::*;
 use set_model::NoMemory;
@@ -15,7 +12,7 @@ fn open_for_one(alloc: Global) -> Result<Words, NoMemory>
     ensures words { IfOk result (λ words. words ≡ 4 ∷ 10 ∷ 0 ∷ 0 ∷ 0 ∷ 0 ∷ 14 ∷ 0 ∷ 0 ∷ 0
         ∷ replicate 10 0) }
     ensures well_formed { IfOk result IsWellFormed }
-    ensures single { IfOk result HasOneBucket }
+    ensures plain { IfOk result HasPlainRows }
 {
     opening(alloc, &Layout { seats: 1, cap: 20 }, &[])
 }
@@ -28,49 +25,6 @@ fn open_with_five(alloc: Global) -> Result<Words, NoMemory>
     ensures plain { IfOk result HasPlainRows }
 {
     opening(alloc, &Layout { seats: 1, cap: 20 }, &[1, 2, 3, 4, 5])
-}
-
-// What a lone caller does to put a row of one key in the place of the only row.
-fn put_only_key(words: &mut Words, key: u64)
-    requires well_formed { IsWellFormed words.old }
-    requires single { HasOneBucket words.old }
-    requires room { next_of words.old + 4 ≤ length words.old }
-    requires fits { length words.old ≤ 1000 }
-    ensures { HasReplaced words.old words.new (key ∷ []) }
-{
-    let bucket = step(words, Step::LoadHead) + FIRST_BUCKET;
-    let found = step(words, Step::LoadBucket { at: bucket });
-    let row = step(words, Step::Draw { len: 4 });
-    step(words, Step::Write { at: row, value: 1 });
-    step(
-        words,
-        Step::Write {
-            at: row + 1,
-            value: 0,
-        },
-    );
-    step(
-        words,
-        Step::Write {
-            at: row + 2,
-            value: 0,
-        },
-    );
-    step(
-        words,
-        Step::Write {
-            at: row + 3,
-            value: key,
-        },
-    );
-    step(
-        words,
-        Step::SwapRow {
-            at: bucket,
-            old: found,
-            new: 2 * row,
-        },
-    );
 }
 
 // The first words of docs/FORMAT.md's example. An opening whose NEXT is one short would fail here
@@ -107,15 +61,27 @@ fn an_opening_with_five_keys_has_two_rows(rt: HostRuntime) -> Result<(), Fail> {
     Ok(())
 }
 
-// The example of docs/FORMAT.md: the key 1 goes into a row at 10.
+// The insert of docs/STEPS.md, step by step, and the words that docs/FORMAT.md has after it. A step
+// that changes another word too would fail here.
 #[test]
 fn an_insert_is_a_draw_writes_and_a_swap(rt: HostRuntime) -> Result<(), Fail> {
     let mut words = open_for_one(rt.alloc())?;
-    put_only_key(&mut words, 1);
-    assert_eq!(rt; words.len(), 20);
-    assert_eq!(rt; words.word(1), 14);
-    assert_eq!(rt; words.word(6), 20);
-    assert_eq!(rt; live_keys(rt.alloc(), &words)?.as_slice(), [1].as_slice());
+    assert_eq!(rt; step(&mut words, Step::LoadHead), 4);
+    assert_eq!(rt; step(&mut words, Step::LoadBucket { at: 6 }), 14);
+    assert_eq!(rt; step(&mut words, Step::LoadSealed { at: 7 }), 0);
+    assert_eq!(rt; step(&mut words, Step::Draw { len: 4 }), 10);
+    assert_eq!(rt; step(&mut words, Step::Write { at: 10, value: 1 }), 1);
+    assert_eq!(rt; step(&mut words, Step::Write { at: 11, value: 0 }), 0);
+    assert_eq!(rt; step(&mut words, Step::Write { at: 12, value: 0 }), 0);
+    assert_eq!(rt; step(&mut words, Step::Write { at: 13, value: 1 }), 1);
+    let swap = Step::SwapRow {
+        at: 6,
+        old: 14,
+        new: 20,
+    };
+    assert_eq!(rt; step(&mut words, swap), 14);
+    let expected = [4, 14, 0, 0, 0, 0, 20, 0, 0, 0, 1, 0, 0, 1, 0, 0, 0, 0, 0, 0];
+    assert_eq!(rt; words.as_slice(), expected.as_slice());
     Ok(())
 }
 
@@ -160,15 +126,14 @@ fn each_kind_of_step_does_what_its_row_says(rt: HostRuntime) -> Result<(), Fail>
 #[test]
 fn refused_memory_is_answered_and_changes_no_word(rt: HostRuntime) -> Result<(), Fail> {
     // Run with each allocation refused in turn; with none refused both calls succeed.
-    let Ok(mut words) = open_for_one(rt.alloc()) else {
+    let Ok(words) = open_with_five(rt.alloc()) else {
         return Ok(());
     };
-    put_only_key(&mut words, 7);
     if let Ok(keys) = live_keys(rt.alloc(), &words) {
-        assert_eq!(rt; keys.as_slice(), [7].as_slice());
+        assert_eq!(rt; keys.as_slice(), [1, 2, 3, 4, 5].as_slice());
     }
-    assert_eq!(rt; words.word(6), 20);
-    assert_eq!(rt; words.word(13), 7);
+    assert_eq!(rt; words.word(7), 26);
+    assert_eq!(rt; words.word(18), 5);
     Ok(())
 }
 

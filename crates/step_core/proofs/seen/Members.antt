@@ -18,7 +18,7 @@ use Rattle.step_core.specs.declared.published.OpBlock.{OpBlock}
 use Rattle.step_core.specs.declared.published.RowBlock.{RowBlock}
 use Rattle.step_core.proofs.seen.Held.{bucket_cell-there, live_cell-head, live_cell-predecessor, row_content-plain, is_held-row}
 use Rattle.step_core.proofs.seen.Shown.{block_shown, bucket_word-cell}
-use Rattle.step_core.proofs.seen.Single.{row_keys-written}
+use Rattle.step_core.proofs.seen.Content.{row_keys-written}
 
 -- what an operation's words apply to keys is what its call does to them
 applied_call : (insert : Bool) (key of_op : ℕ) (keys : ℕ → Bool)

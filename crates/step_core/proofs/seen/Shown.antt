@@ -3,7 +3,7 @@ use Rattle.std.proofs.Common.{◌≡◌, ℕ, ◌+◌, ◌-◌, ◌%◌, ◌^◌
 use Rattle.std.proofs.lemmas.Nat.{mod_below, pow_pos}
 use Rattle.arena.specs.Laws.{IsDrawn}
 use Rattle.arena.proofs.laws.Apart.{blocks_lie_inside}
-use Rattle.step_core.specs.Format.{head_of, next_of, base_of, sealed_words, open_words, block_len, Stands, IsNil, IsMutable, row_address}
+use Rattle.step_core.specs.Format.{head_of, next_of, base_of, sealed_words, open_words, block_len, Stands, IsNil, row_address}
 use Rattle.step_core.specs.Content.{bucket_of, bucket_word}
 use Rattle.step_core.specs.Fits.{Fits, HoldsBlocks, IsWellFormed, IsAtHome, KeepsHome}
 use Rattle.step_core.specs.States.{RoundState, IsGeneration, IsRow, hands_of}
@@ -25,10 +25,8 @@ pub record IsShown (seats : ℕ) (words : List ℕ) (at : ℕ) (block : Publishe
 -- the words of a round with so many passes show these published blocks
 pub record ShowsBlocks (seats : ℕ) (words : List ℕ) (blocks : ℕ → Option Published) : Type 0 where
   pub shown : (at : ℕ) (block : Published) → blocks at ≡ Some block → IsShown seats words at block
-  pub empty : (at : ℕ) → next_of words ≤ at → slice_index words at ≡ 0
   pub head : (generation : GenerationBlock) × IsGeneration blocks (head_of words) generation
   pub small : (at : ℕ) (generation : GenerationBlock) → IsGeneration blocks at generation → generation.exponent ≤ max_exponent
-  pub mutable : (spot : ℕ) → IsMutable (bucket_word words (head_of words) spot)
   pub filled : (at : ℕ) (generation : GenerationBlock) (spot : ℕ) → IsGeneration blocks at generation
       → generation.predecessor ≡ 0 → ¬ IsNil (bucket_word words at spot)
   pub names : (at : ℕ) (generation : GenerationBlock) (spot : ℕ) → IsGeneration blocks at generation
@@ -84,13 +82,8 @@ module _ {seats : ℕ} {words : List ℕ} {state : RoundState} (holds : HoldsBlo
   pub shows_blocks : ShowsBlocks seats words state.blocks
   shows_blocks = record {
     shown = block_shown;
-    empty = λ at past. holds.laid.rest at (let next : next_of words ≡ state.next = holds.laid.fixed_words.next_shown in omega arith);
     head = head_there;
     small = holds.chain.small;
-    mutable = λ spot. subst (λ (word : ℕ). IsMutable word)
-        (sym (bucket_word-cell (head_of words) head_there.0 spot head_there.1
-        ∙ ap (λ (at : ℕ). state.cells at (bucket_of head_there.0.exponent spot)) head_is))
-        (holds.chain.mutable (bucket_of head_there.0.exponent spot));
     filled = λ at generation spot here first. subst (λ (word : ℕ). ¬ IsNil word) (sym (bucket_word-cell at generation spot here))
         (holds.chain.filled at generation spot here (inr first));
     names = λ at generation spot here filled. subst (λ (word : ℕ). IsAtHome state.blocks (row_address word) generation spot)

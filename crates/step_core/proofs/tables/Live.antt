@@ -20,7 +20,7 @@ use Rattle.step_core.specs.Format.{head_of, IsNil, row_address}
 use Rattle.step_core.specs.Plain.{HasPlainRows, bucket_row, keys_before}
 use Rattle.step_core.specs.declared.format.TheConstants.{FIRST_BUCKET, FIRST_KEY}
 use Rattle.step_core.specs.declared.published.Published.TheVariants.{Generation, Row}
-use Rattle.step_core.proofs.seen.Single.{row_keys-written, content_of-plain}
+use Rattle.step_core.proofs.seen.Content.{row_keys-written, content_of-plain}
 use Rattle.step_core.proofs.seen.Shown.{shown_by}
 
 -- what the words show of a bucket's row

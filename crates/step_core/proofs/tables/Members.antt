@@ -7,7 +7,7 @@ use Rattle.step_core.specs.Format.{head_of, row_address}
 use Rattle.step_core.specs.Content.{bucket_of, bucket_word, spot_of, content_of, live_word, is_member}
 use Rattle.step_core.specs.Plain.{PlainTable, IsPlainTable, HasPlainRows}
 use Rattle.step_core.proofs.tables.Plain.{starts-apart, bucket_low, bucket_read, row_low, address_is}
-use Rattle.step_core.proofs.seen.Single.{row_keys-written, content_of-plain}
+use Rattle.step_core.proofs.seen.Content.{row_keys-written, content_of-plain}
 
 module _ {seats : ℕ} {words : List ℕ} {table : PlainTable} (is : IsPlainTable seats words table) where
   row_of_spot : (spot : ℕ) → row_address (bucket_word words (head_of words) spot) ≡ table.starts (bucket_of table.exponent spot)

@@ -1,5 +1,5 @@
 -- An opening is a table of plain rows, and its members are its keys.
-use Rattle.std.proofs.Common.{◌≡◌, ℕ, zero, suc, ◌+◌, ◌-◌, ◌*◌, ◌^◌, ◌<◌, ◌≤◌, nat_eq, Bool, true, false, cond, ◌||◌, List, [], ◌∷◌, ◌++◌, length, slice_index, replicate, refl, sym, ap, ◌∙◌, subst, arith, add-one, append_assoc, length-append, All, Result, Ok, Err, IfOk, inl, inr}
+use Rattle.std.proofs.Common.{◌≡◌, ℕ, zero, suc, ◌+◌, ◌-◌, ◌^◌, ◌<◌, ◌≤◌, nat_eq, Bool, true, false, cond, ◌||◌, List, [], ◌∷◌, ◌++◌, length, slice_index, replicate, refl, sym, ap, ◌∙◌, subst, arith, add-one, append_assoc, length-append, All, Result, Ok, Err, IfOk, inl, inr}
 use Rattle.std.specs.List.{list_any, filter}
 use Rattle.std.specs.List.Sorted.{IsStrictlyIncreasing}
 use Rattle.std.specs.FinSet as set
@@ -13,16 +13,13 @@ use Rattle.set_model.specs.Keys.{keys_set}
 use Rattle.step_core.specs.Buckets.{key_bucket, class_keys}
 use Rattle.step_core.specs.Content.{InClass, HasMembers}
 use Rattle.step_core.specs.Format.{base_of, Stands, mutable_word, row_words}
-use Rattle.step_core.specs.Openings.{opening_words, opening_of, exponent_for, exponent_from, fixed_words, generation_words, rows_of, row_start}
+use Rattle.step_core.specs.Openings.{opening_words, opening_of, exponent_for, fixed_words, generation_words, rows_of, row_start}
 use Rattle.step_core.specs.Plain.{PlainTable, IsPlainTable}
-use Rattle.step_core.specs.Single.{HasOneBucket}
 use Rattle.step_core.specs.declared.format.TheConstants.{FIRST_ANNOUNCED, FIRST_BUCKET, FIRST_KEY}
 use Rattle.step_core.proofs.tables.OneExponent.{exponent_for-least, exponent_for-small}
 use Rattle.step_core.proofs.tables.Rows.{rows_of-more, length-rows_of-all}
 use Rattle.step_core.proofs.tables.Written.{length-fixed_words, length-generation_words, opening_front, length-opening_front, length-opening_of}
-use Rattle.step_core.proofs.tables.Plain.{exponent_read}
-use Rattle.step_core.proofs.tables.Members.{table_member, table_plain}
-use Rattle.step_core.proofs.seen.Single.{single_from_plain}
+use Rattle.step_core.proofs.tables.Members.{table_member}
 
 -- a list of zeros has zeros everywhere
 pub zeros-at : (n at : ℕ) → slice_index (replicate n 0) at ≡ 0
@@ -226,22 +223,6 @@ module _ (seats cap : ℕ) (keys : List ℕ) (rising : IsStrictlyIncreasing keys
   opening_members key =
       set.contains-from_list_nat keys key
       ∙ sym (table_member opening_is_table key ∙ list_any-class exponent key keys)
-
-exponent_for-none : exponent_for 0 ≡ 0
-unfolding exponent_from
-exponent_for-none = refl
-
--- an opening without keys has the generation's three words and its row's three
-pub opening_words-none : (seats : ℕ) → opening_words seats [] ≡ base_of seats + 6
-opening_words-none seats = ap (λ (e : ℕ). base_of seats + FIRST_BUCKET + (1 + FIRST_KEY) * 2 ^ e + 0) exponent_for-none ∙ omega arith
-
--- it has one bucket
-pub opening-one_bucket : (seats cap : ℕ) → opening_words seats [] ≤ cap → HasOneBucket (opening_of seats cap [])
-opening-one_bucket seats cap fits =
-    let table = opening_is_table seats cap [] (λ k lt. absurd (omega arith)) (omega arith) fits in
-    let words = opening_of seats cap [] in
-    single_from_plain words (exponent_read table ∙ exponent_for-none)
-    (table_plain table)
 
 -- what holds of the only words that a call may give holds of those that it gave
 pub IfOk-only : {E : Type 0} (P : List ℕ → Type 0) (only : List ℕ) (r : Result (List ℕ) E)

@@ -1,5 +1,6 @@
 -- The chain of a run: its rounds, one behind the other, each with its whole history and the calls that
--- were settled behind it. With it each record's call stands in one legal history of a plain set.
+-- were settled behind it. It is one legal history of a plain set: each record's call has its entry
+-- there, or was a reading of a set that stood in it.
 use Rattle.std.specs.Prelude.{◌≡◌, ◌⊎◌, ℕ, ◌+◌, ◌<◌, ◌≤◌, Bool, true, false, not, List, [], ◌∷◌, ◌++◌, flat_map, length, map, take, slice_index, slice_index_or, All, ⊤, is_some}
 use Rattle.std.specs.List.{Any, range_with_len}
 use Rattle.std.specs.List.Sorted.{IsPermutation, IsStrictlyIncreasing}

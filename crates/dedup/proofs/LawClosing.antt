@@ -27,7 +27,7 @@ use Rattle.idfiles.specs.declared.id_record.IdRecord.{IdRecord}
 use Rattle.step_core.specs.Limits.{max_passes}
 use Rattle.dedup.specs.Crews.{HasPart, HaveDone, rest_of}
 use Rattle.dedup.specs.Records.{asked_of}
-use Rattle.dedup.specs.Rounds.{ClosesRound, EndsRound, SettlesRound, lists_in, round_ended}
+use Rattle.dedup.specs.Rounds.{AddsRound, ClosesRound, SettlesRound, lists_in, round_ended}
 use Rattle.dedup.specs.Settling.{CanSettle, handed_in, lists_of}
 use Rattle.dedup.specs.Workers.{GoesThrough, HasDone, IsJob, is_refused, part_of}
 use Rattle.dedup.specs.declared.one_round.EndedRound.{EndedRound}
@@ -235,7 +235,7 @@ module _ (records : List IdRecord) (round : RoundValue) (left : List ℕ) (worke
 
       -- the round is one of a chain, and leaves its keys and what its workers didn't come to
       pub ends_round : rests ≡ flat_map (rest_of left) workers → 0 < length left
-          → EndsRound records round.plan.fast round.facts.keys left ended
+          → AddsRound records round.plan.fast round.facts.keys left ended
       ends_round are some =
           let left_is : ended.left.items ≡ flat_map (rest_of left) workers = settles.left_is ∙ are in
           let begun : numbers_in (lists_in ended.made) ≡ flat_map begun_by workers = ap numbers_in settles.made_is ∙ begun_all in

@@ -16,19 +16,19 @@ use Rattle.dedup.specs.Output.{IsListing}
 use Rattle.dedup.specs.declared.command.Listing.{Listing}
 use Rattle.dedup.specs.Limits.{tried_turns}
 use Rattle.dedup.specs.Records.{asked_of}
-use Rattle.dedup.specs.Run.{Ends, HasMade, ListsFiles}
+use Rattle.dedup.specs.Run.{Ends, HasRounds, ListsFiles}
 use Rattle.dedup.specs.Words.{MayRefuse, files_named}
 use Rattle.dedup.proofs.LawInputs.{are-some, content_in}
 
 -- before the first round all records are still to come
-pub made_none : (contents : List (List ℕ)) → HasMade contents [] NoMemory
+pub made_none : (contents : List (List ℕ)) → HasRounds contents [] NoMemory
 made_none contents =
     let asked = asked_of (run_records contents) in
     (range_with_len 0 (length asked), chain_none asked tried_turns)
 
 -- and so where the files aren't read
-pub unread : (contents : List (List ℕ)) (rounds : List RoundEnd) (fault : IdFault) → rounds ≡ [] → HasMade contents rounds fault
-unread contents rounds NoMemory none = subst (λ (all : List RoundEnd). HasMade contents all NoMemory) (sym none) (made_none contents)
+pub unread : (contents : List (List ℕ)) (rounds : List RoundEnd) (fault : IdFault) → rounds ≡ [] → HasRounds contents rounds fault
+unread contents rounds NoMemory none = subst (λ (all : List RoundEnd). HasRounds contents all NoMemory) (sym none) (made_none contents)
 unread contents rounds (BadLine file line) none = none
 unread contents rounds (ReadFault file) none = none
 unread contents rounds (TooLong file) none = none

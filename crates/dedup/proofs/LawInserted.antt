@@ -20,7 +20,7 @@ use Rattle.chain.proofs.Once.{members_are_asked}
 use Rattle.chain.proofs.Pushing.{chain_none, chain_of-push, chain_push, changing_of-push}
 use Rattle.idfiles.specs.declared.id_record.IdRecord.{IdRecord}
 use Rattle.dedup.specs.Records.{asked_of, ids_of}
-use Rattle.dedup.specs.Rounds.{EndsRound, HasInserted, lists_in, round_ended}
+use Rattle.dedup.specs.Rounds.{AddsRound, HasInserted, lists_in, round_ended}
 use Rattle.dedup.specs.declared.one_round.EndedRound.{EndedRound}
 use Rattle.dedup.proofs.LawRecords.{ask_inserts, asks, keys_asked-records}
 
@@ -74,7 +74,7 @@ module _ {records : List IdRecord} {turns : ℕ} {rounds : List RoundEnd} {keys 
       )
 
   -- one round more
-  pub inserted_push : (ended : EndedRound) → EndsRound records turns keys left ended
+  pub inserted_push : (ended : EndedRound) → AddsRound records turns keys left ended
       → HasInserted records turns (rounds ++ round_ended ended ∷ []) ended.keys.items ended.left.items (changing ++ ended.changed.items)
   inserted_push ended ends =
       let round = round_ended ended in

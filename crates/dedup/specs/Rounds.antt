@@ -77,7 +77,7 @@ pub record SettlesRound (records : List IdRecord) (closing : ClosingValue) (hand
 
 -- A round that began with the keys, while the records with the numbers in `left` were still to come:
 -- it is one of a chain, and what it leaves for the next one.
-pub record EndsRound (records : List IdRecord) (turns : ℕ) (keys left : List ℕ) (ended : EndedRound)
+pub record AddsRound (records : List IdRecord) (turns : ℕ) (keys left : List ℕ) (ended : EndedRound)
     : Type 0 where
   pub round : IsRunRound (asked_of records) turns (is_in keys) (round_ended ended)
   pub keys_are : (key : ℕ) → is_in ended.keys.items key

@@ -26,10 +26,10 @@ pub record IsOutput (listing : Listing) (contents : List (List ℕ)) (rounds : L
   pub text : IsListing listing (run_records contents) rounds output
 
 -- where memory was refused some rounds were made, and with any other fault of the files none
-abbrev pub HasMade : List (List ℕ) → List RoundEnd → IdFault → Type 0
-HasMade contents rounds NoMemory = (left : List ℕ)
+abbrev pub HasRounds : List (List ℕ) → List RoundEnd → IdFault → Type 0
+HasRounds contents rounds NoMemory = (left : List ℕ)
     × IsRunChain (asked_of (run_records contents)) tried_turns rounds left
-HasMade contents rounds fault = rounds ≡ []
+HasRounds contents rounds fault = rounds ≡ []
 
 -- the whole output or a front of it was written, or nothing; `left` is what the inputs have left
 abbrev pub Prints : Listing → List (List ℕ) → List RoundEnd → Option (List ℕ)
@@ -41,7 +41,7 @@ Prints listing contents rounds left before now (Err Write) = (output : List ℕ)
 Prints listing contents rounds left before now (Err BadWords) =
     (rounds ≡ []) × Keeps before now
 Prints listing contents rounds left before now (Err (Ids fault)) =
-    SaysOf contents left fault × HasMade contents rounds fault × Keeps before now
+    SaysOf contents left fault × HasRounds contents rounds fault × Keeps before now
 
 -- the same of the files that the words name
 abbrev pub Ends : Option Files → List (List ℕ) → List RoundEnd → Option (List ℕ)
@@ -85,7 +85,7 @@ Lists listing contents rounds left (Ok text) = IsOutput listing contents rounds 
 Lists listing contents rounds left (Err BadWords) = ⊥
 Lists listing contents rounds left (Err Write) = ⊥
 Lists listing contents rounds left (Err (Ids fault)) =
-    SaysOf contents left fault × HasMade contents rounds fault
+    SaysOf contents left fault × HasRounds contents rounds fault
 
 -- the same of the files of these names
 abbrev pub ListsFiles : Option Files → List (List ℕ) → List RoundEnd → Option (List ℕ) → Listing

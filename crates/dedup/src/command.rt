@@ -34,7 +34,7 @@ pub(crate) const TRIED_TURNS: u32 = 64;
 /// Which list of the distinct ids is written.
 #[derive(Clone, Copy, Debug, PartialEq, Eq)]
 pub(crate) enum Listing {
-    /// Each id with the file and the line of its first record.
+    /// Each id with the file and the line of the record whose insert changed the set.
     Keep,
     /// The ids.
     Ids,

@@ -13,9 +13,9 @@ use std::alloc::Global;
 use std::thread;
 use std::thread::Threads;
 
-/// What the workers of a round hand in.
+/// What the workers of a round return.
 #[derive(Drop)]
-pub(crate) struct HandedIn {
+pub(crate) struct Returned {
     /// Their passes, by number.
     pub(crate) passes: Vec<Pass>,
     /// What each did, by number.
@@ -99,7 +99,7 @@ pub(crate) fn rests_of(
 }
 
 /// Takes the workers apart.
-pub(crate) fn hand_in(alloc: Global, mut workers: Vec<Worker>) -> Result<HandedIn, NoMemory>
+pub(crate) fn hand_in(alloc: Global, mut workers: Vec<Worker>) -> Result<Returned, NoMemory>
     ensures passes { IfOk result (λ handed.
         handed.passes.items ≡ map (λ worker. worker.pass) workers.items) }
     ensures hands { IfOk result (λ handed.
@@ -113,5 +113,5 @@ pub(crate) fn hand_in(alloc: Global, mut workers: Vec<Worker>) -> Result<HandedI
         passes.push(pass)?;
         hands.push(hand)?;
     }
-    Ok(HandedIn { passes, hands })
+    Ok(Returned { passes, hands })
 }

@@ -1,10 +1,12 @@
 //! `dedup`: the distinct ids of files, rising, each once.
 //!
-//! A *run* reads its words, which are the *command*: the list that is asked for and one to 64
-//! files. The files' lines give *records*: an id with its file and line. It ends with a *status*: 0
-//! where the list was printed, else the number of its *fault*, which it reports by one line on the
-//! fault sink. `run` carries the whole as its contract. The smallest use is the test
-//! `prints_each_id_once`.
+//! A *run* reads its words, which are the *command*: the list that is asked for, the workers and
+//! their room, and one to 64 files. The files' lines give *records*: an id with its file and line.
+//! Workers insert the ids into the set for threads, in one *round* after another. The run ends with a
+//! *status*: 0 where the list was printed, else the number of its *fault*, which it reports by one
+//! line on the fault sink. The contract of `run` says what is printed, by which history of a plain
+//! set, and what each status means; how many threads and rounds there were, only tests show. The
+//! smallest use is the test `prints_each_id_once`.
 #![tactic(auto)]
 
 mod command;

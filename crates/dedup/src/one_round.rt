@@ -8,11 +8,11 @@ ghost use Rattle.rounds.specs.Halts.{AreAtRest};
 ghost use Rattle.rounds.specs.Starts.{StartsRound};
 ghost use Rattle.step_core.specs.Limits.{max_keys, max_passes};
 ghost use Rattle.dedup.specs.Crews.{HaveDone};
-ghost use Rattle.dedup.specs.Rounds.{ClosesRound, EndsRound, IsLeft, IsRunPlan, SettlesRound, lists_in};
+ghost use Rattle.dedup.specs.Rounds.{AddsRound, ClosesRound, IsLeft, IsRunPlan, SettlesRound, lists_in};
 ghost use Rattle.dedup.specs.Settling.{CanSettle, lists_of};
 ghost use Rattle.dedup.specs.Workers.{IsJob};
 
-use crate::crew::{HandedIn, hand_in, has_failed, rests_of, work_all, workers_of};
+use crate::crew::{Returned, hand_in, has_failed, rests_of, work_all, workers_of};
 use crate::phase::Phase;
 use crate::settle::{append_changed, settle};
 use crate::worker::{Hand, Job, Worker};
@@ -54,7 +54,7 @@ pub(crate) fn one_round<R: Threads + Sync, G: Gate>(
     requires few { length keys.items ≤ max_keys }
     requires left { IsLeft phase.now.records.now left.now }
     ensures { IfOk result
-        (EndsRound phase.now.records.now phase.now.plan.fast keys.items left.now) }
+        (AddsRound phase.now.records.now phase.now.plan.fast keys.items left.now) }
 {
     let (round, passes) = started(alloc, keys, phase.plan)?;
     let job = Job {
@@ -113,10 +113,10 @@ fn close_round(
     requires job { IsJob records.now round left.now }
     requires some { 0 < length left.now }
     requires done { HaveDone records.now round left.now workers.items }
-    ensures { IfOk result (EndsRound records.now round.plan.fast round.facts.keys left.now) }
+    ensures { IfOk result (AddsRound records.now round.plan.fast round.facts.keys left.now) }
 {
     let rests = rests_of(alloc, left, &workers)?;
-    let HandedIn { passes, hands } = hand_in(alloc, workers)?;
+    let Returned { passes, hands } = hand_in(alloc, workers)?;
     let closing = closed(alloc, round, passes)?;
     settled_round(alloc, records, closing, hands, rests)
 }

@@ -36,7 +36,7 @@ pub(crate) struct Inserted {
 }
 
 /// Puts the ids of all records into the set, in as many rounds as it takes. Where memory is refused
-/// `so_far` has the rounds that ended before.
+/// `so_far` has a front of them.
 pub(crate) fn insert_all<R: Threads + Sync, G: Gate>(
     rt: &R,
     alloc: Global,

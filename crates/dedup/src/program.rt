@@ -1,5 +1,5 @@
 // The run: from words to a status.
-ghost use Rattle.std.specs.Prelude.{◌≡◌, [], map};
+ghost use Rattle.std.specs.Prelude.{◌≡◌, [], length, map};
 ghost use Rattle.dedup.specs.Fault.{fault_line, no_memory, status_of, status_of_fault};
 ghost use Rattle.dedup.specs.Rounds.{rounds_of};
 ghost use Rattle.dedup.specs.Run.{Ends, EndsWith, HasCauses, HasRead, ListsFiles, RoseAt, Said};
@@ -20,8 +20,8 @@ use std::alloc::Global;
 use std::thread::Threads;
 
 /// How a run ended, and what its rounds were. The three lists have one member for each round, in
-/// order. With status 1 they have the rounds that ended before memory was refused; with 2, 3, 4 and 6
-/// there is none.
+/// order. With status 1 they have a front of the run's rounds, as far as memory was found; with 2, 3,
+/// 4 and 6 there is none.
 #[derive(Drop)]
 pub struct Ended {
     /// 0 where the list was written; 1 out of memory; 2 the words are not the command; 3 a line of
@@ -30,7 +30,8 @@ pub struct Ended {
     pub status: u8,
     /// How each round ended.
     pub closings: Vec<Closing>,
-    /// The inserts that were refused in each round and settled behind it, in the order of the workers.
+    /// The inserts that were refused in each round and settled behind it, in the order of the
+    /// workers.
     pub settled: Vec<Vec<Entry>>,
     /// For each round and each of its workers, the numbers of the records whose inserts it began, in
     /// order. Records are numbered from 0, in the order in which they are read.
@@ -38,10 +39,10 @@ pub struct Ended {
 }
 
 /// Prints the list that the words ask for: of the distinct ids of their files, rising, each once.
-/// The ids go through the set for threads, in as many rounds as the room asks for; an insert that was
-/// refused for want of room is settled between two rounds.
+/// The ids go through the set for threads in rounds; a worker's insert that was refused, for want of
+/// room or after many lost tries, is settled behind its round, and what it left goes to the next one.
 /// Otherwise it ends with the status of its first fault, whose line it writes to the fault sink; a
-/// fault there changes no status. The gate is called round each insert.
+/// fault there changes no status. The gate is called round each insert, of which no clause speaks.
 pub fn run<R: Threads + Sync, I: Inputs, O: Sink, E: Sink, G: Gate>(
     rt: &R,
     alloc: Global,
@@ -54,8 +55,11 @@ pub fn run<R: Threads + Sync, I: Inputs, O: Sink, E: Sink, G: Gate>(
     ensures words { HasRead (texts words.now) result.status }
     ensures ends { EndsWith result.status
         (rounds_of result.closings.items result.settled.items result.made.items)
-        (I.files inputs.old) (texts words.now) (I.left inputs.new) (O.written out.old) (O.written out.new) (E.faults faults.old)
+        (I.files inputs.old) (texts words.now) (I.left inputs.new)
+        (O.written out.old) (O.written out.new) (E.faults faults.old)
         (E.faults faults.new) (E.written faults.old) (E.written faults.new) }
+    ensures settled { length result.settled.items ≡ length result.closings.items }
+    ensures made { length result.made.items ≡ length result.closings.items }
     ensures causes { HasCauses result.status
         (I.faults inputs.old) (I.faults inputs.new) (O.faults out.old) (O.faults out.new) }
 {
@@ -67,7 +71,8 @@ pub fn run<R: Threads + Sync, I: Inputs, O: Sink, E: Sink, G: Gate>(
     so_far.ended(status)
 }
 
-/// Ends a run whose words could not be had for want of memory: its line, and its status, which is 1.
+/// Ends a run whose words could not be had for want of memory: its line, and its status, which is
+/// 1.
 pub fn out_of_memory<E: Sink>(faults: &mut E) -> u8
     ensures status { result ≡ 1 }
     ensures line { Said (fault_line no_memory)

@@ -1,5 +1,5 @@
 // The rounds of a run so far.
-ghost use Rattle.std.specs.Prelude.{◌≡◌, [], ◌∷◌, ◌++◌, OnErr, OnOk};
+ghost use Rattle.std.specs.Prelude.{◌≡◌, [], ◌∷◌, ◌++◌, length, OnErr, OnOk};
 ghost use Rattle.dedup.specs.Rounds.{round_of, rounds_of};
 
 use crate::Ended;
@@ -8,12 +8,14 @@ use set_model::{Entry, NoMemory};
 use std::alloc::Global;
 use std::marker::Model;
 
-/// The rounds of a run so far, each with its closing, the calls that were settled behind it, and for
-/// each of its workers the numbers of the records whose inserts it began.
+/// The rounds of a run so far, in order.
 #[derive(Drop)]
 pub(crate) struct SoFar {
+    /// How each ended.
     pub(crate) closings: Vec<Closing>,
+    /// The calls that were settled behind each.
     pub(crate) settled: Vec<Vec<Entry>>,
+    /// The numbers of the records whose inserts each of its workers began.
     pub(crate) made: Vec<Vec<Vec<u32>>>,
 }
 
@@ -68,6 +70,8 @@ impl SoFar {
         ensures status { result.status ≡ status }
         ensures rounds { rounds_of result.closings.items result.settled.items result.made.items
             ≡ self }
+        ensures settled { length result.settled.items ≡ length result.closings.items }
+        ensures made { length result.made.items ≡ length result.closings.items }
     {
         let SoFar {
             closings,

@@ -96,7 +96,7 @@ fn prints_each_id_once(rt: HostRuntime) -> Result<(), Fail> {
     ];
     for (words, f, g, output) in cases {
         let outcome = run_on(&rt, rt.alloc(), words, f, g, &NONE)?;
-        assert_eq!(rt; outcome.status, 0, "at {words:?}");
+        assert_eq!(rt; outcome.ended.status, 0, "at {words:?}");
         assert_eq!(rt; outcome.out.bytes(), output, "at {words:?}");
         assert!(rt; outcome.faults.bytes().is_empty());
     }
@@ -141,7 +141,7 @@ fn the_first_fault_of_the_files_is_told(rt: HostRuntime) -> Result<(), Fail> {
     ];
     for (words, f, g, status, line) in cases {
         let outcome = run_on(&rt, rt.alloc(), words, f, g, &NONE)?;
-        assert_eq!(rt; outcome.status, status, "at {line:?}");
+        assert_eq!(rt; outcome.ended.status, status, "at {line:?}");
         assert!(rt; outcome.out.bytes().is_empty());
         assert_eq!(rt; outcome.faults.bytes(), line);
     }
@@ -162,7 +162,7 @@ fn words_that_are_not_the_command_are_bad(rt: HostRuntime) -> Result<(), Fail> {
     ];
     for words in cases {
         let outcome = run_on(&rt, rt.alloc(), words, b"1\n", b"", &NONE)?;
-        assert_eq!(rt; outcome.status, 2, "at {words:?}");
+        assert_eq!(rt; outcome.ended.status, 2, "at {words:?}");
         assert!(rt; outcome.out.bytes().is_empty());
         assert_eq!(rt; outcome.faults.bytes(), b"dedup: bad words\n".as_slice());
     }

@@ -17,7 +17,7 @@ fn each_failed_read_ends_the_run(rt: HostRuntime) -> Result<(), Fail> {
             8 => (0, b"1\n3\n", b""),
             _ => (4, b"", b"dedup: read fault in file 1\n"),
         };
-        assert_eq!(rt; outcome.status, status, "at call {call}");
+        assert_eq!(rt; outcome.ended.status, status, "at call {call}");
         assert_eq!(rt; outcome.out.bytes(), out, "at call {call}");
         assert_eq!(rt; outcome.faults.bytes(), line, "at call {call}");
     }
@@ -37,7 +37,7 @@ fn a_bad_line_is_told_at_its_end(rt: HostRuntime) -> Result<(), Fail> {
             3 => (3, b"dedup: bad line 1:1\n"),
             _ => (4, b"dedup: read fault in file 1\n"),
         };
-        assert_eq!(rt; outcome.status, status, "at call {call}");
+        assert_eq!(rt; outcome.ended.status, status, "at call {call}");
         assert!(rt; outcome.out.bytes().is_empty(), "at call {call}");
         assert_eq!(rt; outcome.faults.bytes(), line, "at call {call}");
     }
@@ -54,7 +54,7 @@ fn each_failed_write_leaves_a_front_of_the_output(rt: HostRuntime) -> Result<(),
             4 => (0, 4, b""),
             _ => (5, call as usize, b"dedup: write fault\n"),
         };
-        assert_eq!(rt; outcome.status, status, "at call {call}");
+        assert_eq!(rt; outcome.ended.status, status, "at call {call}");
         assert_eq!(rt; outcome.out.bytes(), &output[..count], "at call {call}");
         assert_eq!(rt; outcome.faults.bytes(), line, "at call {call}");
     }
@@ -79,7 +79,7 @@ fn a_read_that_fails_between_large_pieces_ends_the_run(rt: HostRuntime) -> Resul
             5 => (0, b"1234567\n", b""),
             _ => (4, b"", b"dedup: read fault in file 1\n"),
         };
-        assert_eq!(rt; outcome.status, status, "at call {call}");
+        assert_eq!(rt; outcome.ended.status, status, "at call {call}");
         assert_eq!(rt; outcome.out.bytes(), out, "at call {call}");
         assert_eq!(rt; outcome.faults.bytes(), line, "at call {call}");
         // Nothing is put into a set before all is read.
@@ -92,7 +92,7 @@ fn a_read_that_fails_between_large_pieces_ends_the_run(rt: HostRuntime) -> Resul
 fn a_run_whose_output_fails_has_its_rounds(rt: HostRuntime) -> Result<(), Fail> {
     let fails = Fails { out: 0, ..NONE };
     let outcome = run_on(&rt, rt.alloc(), &IDS, b"3\n1\n3\n", b"", &fails)?;
-    assert_eq!(rt; outcome.status, 5);
+    assert_eq!(rt; outcome.ended.status, 5);
     assert_eq!(rt; outcome.ended.closings.len(), 1);
     assert_eq!(rt; outcome.ended.made.len(), 1);
     Ok(())
@@ -111,7 +111,7 @@ fn a_fault_in_the_fault_line_changes_no_status(rt: HostRuntime) -> Result<(), Fa
     ];
     for (words, file, fails, status) in cases {
         let outcome = run_on(&rt, rt.alloc(), words, file, b"", &fails)?;
-        assert_eq!(rt; outcome.status, status);
+        assert_eq!(rt; outcome.ended.status, status);
         assert!(rt; outcome.faults.bytes().is_empty(), "at status {status}");
     }
     Ok(())
@@ -121,11 +121,11 @@ fn a_fault_in_the_fault_line_changes_no_status(rt: HostRuntime) -> Result<(), Fa
 fn refused_memory_ends_the_run_with_nothing_printed(rt: HostRuntime) -> Result<(), Fail> {
     // Run with each allocation refused in turn; with none refused it is a plain run.
     let outcome = run_on(&rt, rt.alloc(), &IDS, b"3\n1\n3\n", b"", &NONE)?;
-    if outcome.status == 0 {
+    if outcome.ended.status == 0 {
         assert_eq!(rt; outcome.out.bytes(), b"1\n3\n".as_slice());
         return Ok(());
     }
-    assert_eq!(rt; outcome.status, 1);
+    assert_eq!(rt; outcome.ended.status, 1);
     assert!(rt; outcome.out.bytes().is_empty());
     assert_eq!(rt;
         outcome.faults.bytes(),

@@ -39,10 +39,9 @@ pub(super) const PIECES: Sizes = Sizes {
     space: 1 << 16,
 };
 
-// A run's end, and what it wrote on the out sink and on the fault sink.
+// How a run ended, and what it wrote on the out sink and on the fault sink.
 #[derive(Drop)]
 pub(super) struct Outcome {
-    pub(super) status: u8,
     pub(super) ended: Ended,
     pub(super) out: MemSink,
     pub(super) faults: MemSink,
@@ -112,10 +111,5 @@ pub(super) fn run_gated<G: Gate>(
     let mut out = sink(alloc, fails.out, sizes)?;
     let mut faults = sink(alloc, fails.faults, sizes)?;
     let ended = run(rt, alloc, &owned, &mut inputs, &mut out, &mut faults, gate);
-    Ok(Outcome {
-        status: ended.status,
-        ended,
-        out,
-        faults,
-    })
+    Ok(Outcome { ended, out, faults })
 }

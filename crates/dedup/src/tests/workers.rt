@@ -1,6 +1,6 @@
 // What no clause says of the workers: that they work side by side, and what their number changes.
 use super::fixture::{NONE, PIECES, Sizes, run_gated, run_sized};
-use super::rooms::{lines_of, random_ids, sorted_lines};
+use super::rooms::{lines_of, random_ids, settled_calls, sorted_lines};
 use outside::Gate;
 use std::alloc::Global;
 use std::sync::atomic::{AtomicBool, AtomicU64, Ordering};
@@ -113,12 +113,7 @@ fn without_room_each_worker_has_an_insert_settled(rt: HostRuntime) -> Result<(),
     let outcome = run_sized(&rt, rt.alloc(), &words, (b"3\n1\n3\n", b""), &NONE, PIECES)?;
     assert_eq!(rt; outcome.out.bytes(), b"1\n3\n".as_slice());
     assert_eq!(rt; outcome.ended.closings.len(), 2);
-    let mut settled = Vec::new(rt.alloc());
-    for (round, entries) in outcome.ended.settled.iter().enumerate() {
-        for entry in entries {
-            settled.push((round, entry.who, entry.serial, entry.key, entry.answer))?;
-        }
-    }
+    let settled = settled_calls(rt.alloc(), &outcome)?;
     assert_eq!(rt;
         settled.as_slice(),
         [(0, 0, 0, 3, true), (0, 1, 0, 1, true)].as_slice()
@@ -133,6 +128,23 @@ fn of_one_id_in_two_files_either_record_is_kept(rt: HostRuntime) -> Result<(), F
     let outcome = run_sized(&rt, rt.alloc(), &words, (b"007\n", b"7\r\n"), &NONE, PIECES)?;
     let text = outcome.out.bytes();
     assert!(rt; text == b"7 1:1\n".as_slice() || text == b"7 2:1\n".as_slice());
+    Ok(())
+}
+
+#[test]
+fn the_defaults_print_each_id_with_a_record_of_it(rt: HostRuntime) -> Result<(), Fail> {
+    let f = b"1726482093751209984\n1726482093751209985\n".as_slice();
+    let g = b"1726482093751209985\n42\n".as_slice();
+    let words = ["dedup", "f", "g"];
+    let sizes = Sizes {
+        piece: 1 << 16,
+        space: 128,
+    };
+    let outcome = run_sized(&rt, rt.alloc(), &words, (f, g), &NONE, sizes)?;
+    let text = outcome.out.bytes();
+    let first = b"42 2:2\n1726482093751209984 1:1\n1726482093751209985 1:2\n".as_slice();
+    let second = b"42 2:2\n1726482093751209984 1:1\n1726482093751209985 2:1\n".as_slice();
+    assert!(rt; text == first || text == second);
     Ok(())
 }
 

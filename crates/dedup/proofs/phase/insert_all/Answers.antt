@@ -4,7 +4,7 @@ use Rattle.std.proofs.lemmas.Bool.Decides.{nat_tests}
 use Rattle.chain.specs.Chain.{IsRunChain, RoundEnd}
 use Rattle.chain.proofs.Pushing.{chain_none}
 use Rattle.dedup.specs.Records.{asked_of}
-use Rattle.dedup.specs.Rounds.{EndsRound, HasInserted, IsLeft, round_ended}
+use Rattle.dedup.specs.Rounds.{AddsRound, HasInserted, IsLeft, round_ended}
 use Rattle.dedup.proofs.LawInserted.{inserted_none, inserted_push, keys-le, left-le, left_below}
 use Rattle.dedup.proofs.phase.insert_all.Goals as goal
 
@@ -36,8 +36,8 @@ rounds-preserved g c =
     let records = c.args.phase.now.records.now in
     let fast = c.args.phase.now.plan.fast in
     let ended = c.in_ok-closing.field-0 in
-    let ends : EndsRound records fast c.rounds.keys.items c.rounds.left.items ended =
-    subst (λ (numbers : List ℕ). EndsRound records fast c.rounds.keys.items numbers ended) c.deref.ensures.value c.in_ok-closing.ensures in
+    let ends : AddsRound records fast c.rounds.keys.items c.rounds.left.items ended =
+    subst (λ (numbers : List ℕ). AddsRound records fast c.rounds.keys.items numbers ended) c.deref.ensures.value c.in_ok-closing.ensures in
     let rounds : c.push.new.self ≡ c.rounds.so_far ++ round_ended ended ∷ [] = c.in_ok-push.ensures.round in
     let changing : c.extend_from_slice.new.self.items ≡ c.rounds.changing.items ++ ended.changed.items =
     subst (λ (numbers : List ℕ). c.extend_from_slice.new.self.items ≡ c.rounds.changing.items ++ numbers) c.deref-in-rounds.ensures.value

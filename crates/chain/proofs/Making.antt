@@ -1,8 +1,8 @@
 -- What a worker did with its pass stays told: as the round begins it made no call, and an insert more was answered or refused.
-use Rattle.std.proofs.Common.{◌≡◌, ◌≢◌, ◌⊎◌, ℕ, ◌+◌, ◌<◌, Bool, true, false, not, if◌then◌else◌, Option, Some, None, is_some, List, [], ◌∷◌, ◌++◌, length, map, take, slice_index, inl, inr, refl, sym, ap, ap₂, ◌∙◌, subst, arith}
+use Rattle.std.proofs.Common.{◌≡◌, ◌≢◌, ◌⊎◌, ℕ, ◌+◌, ◌<◌, Bool, true, false, not, if◌then◌else◌, Option, Some, None, is_some, List, [], ◌∷◌, ◌++◌, length, map, slice_index, inl, inr, refl, sym, ap, ap₂, ◌∙◌, subst, arith}
 use Rattle.std.specs.List.{All, Any, filter}
 use Rattle.std.proofs.lemmas.Bool.{cases_lt}
-use Rattle.std.proofs.lemmas.List.{get_or_append_left, get_or_push, length-append, length_push, map_push, take-append-le, take_all}
+use Rattle.std.proofs.lemmas.List.{get_or_append_left, get_or_push, length-append, length_push, map_push, take_all}
 use Rattle.std.proofs.lemmas.List.Elements.{All-filter, All-head, All-nil, All-push, All-same, All-tail, All-weaker, filter-append}
 use Rattle.std.proofs.lemmas.List.Quantifiers.{Any-push}
 use mathlib.Core.List.{IsPrefix}
@@ -18,9 +18,10 @@ use Rattle.fset.specs.Frames.{KeepsOwn}
 use Rattle.fset.specs.Standing.{Enters, ReadsSet, TriedStands, entry_for}
 use Rattle.hash_set.specs.Calls.{AnswersCall, BeginsCall, LosesCall, RefusesCall}
 use Rattle.rounds.specs.Closings.{account_of}
-use Rattle.chain.specs.Chain.{Asked, ShowsCause, WasReading, asked_at, changes_nothing}
+use Rattle.chain.specs.Chain.{Asked, ShowsCause, WasReading, asked_at}
 use Rattle.chain.specs.Changing.{is_changing}
 use Rattle.chain.specs.Workers.{HasMade, IsMine, WasAnswered}
+use Rattle.chain.proofs.Filtering.{reading_begins}
 
 -- as its round begins a pass made no call
 pub made_none : (asked : List Asked) (turns : ℕ) (round : RoundValue) (number : ℕ)
@@ -33,19 +34,7 @@ made_none asked turns round number = record {
   refusal = λ is. absurd (cc);
 }
 
--- a reading of a history is one of a longer history
-still_reading : (members : ℕ → Bool) (before now : List Entry) (call : Asked) → IsPrefix before now
-    → WasReading members before call → WasReading members now call
-still_reading members before now call grows was =
-    let cut : take was.place now ≡ take was.place before =
-    ap (take was.place) (sym grows.1) ∙ take-append-le was.place before grows.0 was.within in
-    record {
-      place = was.place;
-      within = omega (arith, was.within, ap length grows.1, length-append before grows.0);
-      reading = subst (λ entries. changes_nothing call.call (members_after members entries call.key) ≡ true) (sym cut) was.reading;
-    }
-
--- and an insert that found its key in the set after the whole history is a reading
+-- an insert that found its key in the set after the whole history is a reading
 whole_reading : (view : PassView) (key : ℕ) → front_has view key ≡ true
     → WasReading (is_in view.facts.keys) view.front (record { call = Insert; key = key })
 whole_reading view key present = record {
@@ -90,7 +79,7 @@ module _ (asked : List Asked) (made : List ℕ) (number : ℕ) where
     still_answered serial below grows keeps (inr was) = inr
         (subst (λ n. WasReading (is_in new.view.facts.keys) new.view.front (asked_at asked n)) (sym (same_number serial below))
         (subst (λ facts. WasReading (is_in facts.keys) new.view.front (asked_at asked (slice_index made serial))) (sym begins.facts)
-        (still_reading (is_in old.view.facts.keys) old.view.front new.view.front (asked_at asked (slice_index made serial)) grows was)))
+        (reading_begins (is_in old.view.facts.keys) old.view.front new.view.front (asked_at asked (slice_index made serial)) grows was)))
 
 any_stays : (serial : ℕ) (entries more : List Entry) → Any (λ entry. entry.serial ≡ serial) entries
     → Any (λ entry. entry.serial ≡ serial) (entries ++ more)

@@ -127,7 +127,7 @@ abbrev pub ShowCauses : ℕ → RoundEnd → Type 0
 ShowCauses turns round =
     All (λ entry. ShowsCause turns (account_at round.closing.accounts entry.who)) round.settled
 
--- a worker's closing counts the calls that it began
+-- the round's closing counts the calls that each worker began
 abbrev pub CountsCalls : RoundEnd → Type 0
 CountsCalls round = map (λ account. account.calls) round.closing.accounts ≡ map length round.made
 

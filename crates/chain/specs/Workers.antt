@@ -34,8 +34,8 @@ pub record WasRefused (turns : ℕ) (made : List ℕ) (pass : PassValue) : Type 
 abbrev pub answered_count : List ℕ → Bool → ℕ
 answered_count made refused = length made - (if refused then 1 else 0)
 
--- The pass began the calls of the records with these numbers, in order; those that changed the set are
--- these; all were answered, but for the last where it was refused.
+-- The pass began the calls of the records with these numbers, in order; those whose call changed the set
+-- are these; all were answered, but for the last where it was refused.
 pub record HasMade (asked : List Asked) (turns : ℕ) (made changed : List ℕ) (refused : Bool)
     (pass : PassValue) : Type 0 where
   pub calls : pass.calls ≡ length made

@@ -1,10 +1,10 @@
 -- A crew that has done its parts hands in its round: it ends as one of a chain.
-use Rattle.std.proofs.Common.{◌≡◌, ◌+◌, ◌-◌, ◌<◌, ◌≤◌, ℕ, Bool, true, false, List, [], ◌∷◌, ◌++◌, append-nil, drop, flat_map, length, map, slice_index_or, slice_range, take, None, inl, inr, refl, sym, ap, ◌∙◌, subst, arith}
+use Rattle.std.proofs.Common.{◌≡◌, ◌+◌, ◌-◌, ◌<◌, ◌≤◌, ℕ, Bool, List, ◌++◌, drop, flat_map, length, map, slice_index_or, take, None, inl, inr, sym, ap, ◌∙◌, subst, arith}
 use Rattle.std.specs.FinSet as set
 use Rattle.std.specs.List.{All, filter, range_with_len}
-use Rattle.std.specs.List.Sorted.{IsPermutation, IsStrictlyIncreasing}
+use Rattle.std.specs.List.Sorted.{IsPermutation}
 use Rattle.std.proofs.lemmas.Bool.{cases_Bool}
-use Rattle.std.proofs.lemmas.List.{drop-drop, drop-take, get_or-map, length-append, length-drop, length-map, length-take-le}
+use Rattle.std.proofs.lemmas.List.{drop-drop, drop-take, get_or-map, length-append, length-map}
 use Rattle.std.proofs.lemmas.List.Elements.{All-drop, All-map, All-same, All-take}
 use Rattle.std.proofs.lemmas.List.FromFn.{length-range_with_len}
 use Rattle.std.proofs.lemmas.List.Folds.{flat_map-map}
@@ -29,7 +29,7 @@ use Rattle.dedup.specs.Crews.{HasPart, HaveDone, rest_of}
 use Rattle.dedup.specs.Records.{asked_of}
 use Rattle.dedup.specs.Rounds.{AddsRound, ClosesRound, SettlesRound, lists_in, round_ended}
 use Rattle.dedup.specs.Settling.{CanSettle, handed_in, lists_of}
-use Rattle.dedup.specs.Workers.{GoesThrough, HasDone, IsJob, is_refused, part_of}
+use Rattle.dedup.specs.Workers.{HasDone, IsJob, is_refused, part_of}
 use Rattle.dedup.specs.declared.one_round.EndedRound.{EndedRound}
 use Rattle.dedup.specs.declared.worker.Hand.{Hand}
 use Rattle.dedup.specs.declared.worker.Worker.{Worker}
@@ -235,7 +235,7 @@ module _ (records : List IdRecord) (round : RoundValue) (left : List ℕ) (worke
 
       -- the round is one of a chain, and leaves its keys and what its workers didn't come to
       pub ends_round : rests ≡ flat_map (rest_of left) workers → 0 < length left
-          → AddsRound records round.plan.fast round.facts.keys left ended
+          → AddsRound records round.facts.seats round.plan.fast round.facts.keys left ended
       ends_round are some =
           let left_is : ended.left.items ≡ flat_map (rest_of left) workers = settles.left_is ∙ are in
           let begun : numbers_in (lists_in ended.made) ≡ flat_map begun_by workers = ap numbers_in settles.made_is ∙ begun_all in
@@ -260,4 +260,6 @@ module _ (records : List IdRecord) (round : RoundValue) (left : List ℕ) (worke
               rest-less (part_of left) begun_by (rest_of left) workers splits (omega (arith, some, ap length tiles)),
             );
             changing = subst (λ (r : RoundEnd). IsPermutation (changing_in r) ended.changed.items) same_round changed_are;
+            workers = ap length settles.made_is ∙ length-map hands (λ (hand : Hand). hand.made.items)
+                ∙ length-map workers (λ (worker : Worker). worker.hand) ∙ count;
           }

@@ -1,5 +1,5 @@
 -- A crew of workers: as it is cut it is ready, and when each has worked and found memory it has done its parts.
-use Rattle.std.proofs.Common.{◌≡◌, ◌≢◌, ◌+◌, ◌-◌, ◌<◌, ◌≤◌, ℕ, Bool, true, false, List, [], ◌∷◌, ◌++◌, drop, flat_map, length, map, slice_index_or, slice_range, take, None, inl, inr, refl, sym, ap, ◌∙◌, subst, arith}
+use Rattle.std.proofs.Common.{◌≡◌, ◌≢◌, ◌+◌, ◌-◌, ◌<◌, ℕ, false, List, [], ◌∷◌, ◌++◌, drop, length, slice_index_or, inl, inr, refl, sym, ap, ◌∙◌, subst, arith}
 use Rattle.std.specs.List.{All, range_with_len}
 use Rattle.std.proofs.lemmas.Bool.{cases_lt}
 use Rattle.std.proofs.lemmas.List.{get_or-map, get_or_append_left, get_or_push, length-append, length-drop, length-map, length-take-le}
@@ -10,7 +10,7 @@ use Rattle.chain.proofs.Making.{made_none}
 use Rattle.idfiles.specs.declared.id_record.IdRecord.{IdRecord}
 use Rattle.dedup.specs.Crews.{AreCut, HasMemory, HasPart, HaveDone, IsCut, cut}
 use Rattle.dedup.specs.Records.{asked_of}
-use Rattle.dedup.specs.Workers.{Goes, GoesThrough, HasBegun, HasDone, HasWorked, IsJob, IsReady, part_of}
+use Rattle.dedup.specs.Workers.{Goes, HasDone, HasWorked, IsJob, IsReady, part_of}
 use Rattle.dedup.specs.declared.worker.Stop.{Stop}
 use Rattle.dedup.specs.declared.worker.Stop.TheVariants.{Finished, Refused, NoMemory}
 use Rattle.dedup.specs.declared.worker.Worker.{Worker}

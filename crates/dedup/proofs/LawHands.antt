@@ -1,11 +1,11 @@
 -- What a worker's hand says of its pass stays told with one insert more.
-use Rattle.std.proofs.Common.{◌≡◌, ◌+◌, ◌<◌, ◌⊎◌, ℕ, Bool, true, false, if◌then◌else◌, List, [], ◌∷◌, ◌++◌, length, take, drop, None, slice_index, slice_index_or, inl, inr, refl, sym, ap, ◌∙◌, subst}
+use Rattle.std.proofs.Common.{◌≡◌, ◌+◌, ◌<◌, ◌⊎◌, ℕ, false, if◌then◌else◌, List, [], ◌∷◌, ◌++◌, length, take, drop, None, slice_index, slice_index_or, inl, inr, refl, sym, ap, ◌∙◌, subst}
 use Rattle.std.proofs.lemmas.List.{take-append-drop, take_more}
 use Rattle.set_model.specs.declared.call.Call.TheVariants.{Insert}
 use Rattle.cells.specs.Tokens.{IsPassOf, PassValue, RoundValue}
 use Rattle.fset.specs.declared.outcomes.Answered.{Answered}
 use Rattle.fset.specs.declared.outcomes.Outcome.{Outcome}
-use Rattle.fset.specs.declared.outcomes.Outcome.TheVariants.{Done, Busy, Full}
+use Rattle.fset.specs.declared.outcomes.Outcome.TheVariants.{Busy, Full}
 use Rattle.hash_set.specs.Calls.{AnswersCall, BeginsCall, EndsCall, LosesCall, RefusesCall}
 use Rattle.chain.specs.Workers.{HasMade}
 use Rattle.chain.proofs.Making.{made_answered, made_refused}

@@ -1,5 +1,5 @@
 -- What stands between two rounds, with one more, and how many keys and records there can be.
-use Rattle.std.proofs.Common.{◌≡◌, ◌<◌, ◌≤◌, ℕ, Bool, true, false, nat_eq, List, [], ◌∷◌, ◌++◌, drop, length, map, slice_index_or, refl, sym, ap, ◌∙◌, subst, arith}
+use Rattle.std.proofs.Common.{◌≡◌, ◌<◌, ◌≤◌, ℕ, nat_eq, List, [], ◌∷◌, ◌++◌, drop, length, slice_index_or, refl, sym, ap, ◌∙◌, subst, arith}
 use Rattle.std.specs.Cmp.{nat_eq_equiv}
 use Rattle.std.specs.List.{All, IsDistinct, list_any, range_with_len}
 use Rattle.std.specs.List.Sorted.{IsPermutation, IsStrictlyIncreasing}
@@ -15,12 +15,12 @@ use Rattle.set_model.specs.History.{members_after}
 use Rattle.set_model.specs.Keys.{is_in}
 use Rattle.set_model.proofs.LawHistory.{members_after-append}
 use Rattle.chain.specs.Chain.{IsRunChain, IsRunRound, RoundEnd, begun_in, chain_of, entries_of, no_key}
-use Rattle.chain.specs.Changing.{changing_in, changing_of, keys_asked}
+use Rattle.chain.specs.Changing.{changing_in, changing_of}
 use Rattle.chain.proofs.Once.{members_are_asked}
 use Rattle.chain.proofs.Pushing.{chain_none, chain_of-push, chain_push, changing_of-push}
 use Rattle.idfiles.specs.declared.id_record.IdRecord.{IdRecord}
 use Rattle.dedup.specs.Records.{asked_of, ids_of}
-use Rattle.dedup.specs.Rounds.{AddsRound, HasInserted, lists_in, round_ended}
+use Rattle.dedup.specs.Rounds.{AddsRound, HasInserted, round_ended}
 use Rattle.dedup.specs.declared.one_round.EndedRound.{EndedRound}
 use Rattle.dedup.proofs.LawRecords.{ask_inserts, asks, keys_asked-records}
 
@@ -74,9 +74,9 @@ module _ {records : List IdRecord} {turns : ℕ} {rounds : List RoundEnd} {keys 
       )
 
   -- one round more
-  pub inserted_push : (ended : EndedRound) → AddsRound records turns keys left ended
+  pub inserted_push : (seats : ℕ) (ended : EndedRound) → AddsRound records seats turns keys left ended
       → HasInserted records turns (rounds ++ round_ended ended ∷ []) ended.keys.items ended.left.items (changing ++ ended.changed.items)
-  inserted_push ended ends =
+  inserted_push seats ended ends =
       let round = round_ended ended in
       let before : is_in keys ≡ members_after no_key (chain_of rounds) = λ i key. inserted.keys_are key i in
       record {

@@ -1,19 +1,18 @@
 -- At the end of a chain the keys are the distinct ids, and the records whose insert changed the set, sorted, have one of each.
-use Rattle.std.proofs.Common.{◌≡◌, ◌<◌, ◌≤◌, ℕ, Bool, true, nat_eq, List, [], ◌∷◌, ◌++◌, length, map, slice_index_or, inl, inr, refl, sym, ap, ◌∙◌, subst, arith}
+use Rattle.std.proofs.Common.{◌≡◌, ◌<◌, ℕ, true, nat_eq, List, [], ◌∷◌, length, slice_index_or, sym, ap, ◌∙◌, subst, arith}
 use Rattle.std.specs.Cmp.{nat_cmp_total, nat_eq_equiv}
 use Rattle.std.specs.FinSet as set
 use Rattle.std.specs.List.{All, IsDistinct, filter}
 use Rattle.std.specs.List.Sorted.{IsNonDecreasing, IsNonDecreasingBy, IsPermutation, IsStrictlyIncreasing}
 use Rattle.std.proofs.lemmas.List.{get_or-map, length-map}
 use Rattle.std.proofs.lemmas.List.Elements.{All-append, All-filter, All-head, All-map, All-nil, All-tail, All-weaker}
-use Rattle.std.proofs.lemmas.List.Sorted.{All-permutation, IsPermutation-map, IsPermutation-sym, IsPermutation-trans}
+use Rattle.std.proofs.lemmas.List.Sorted.{All-permutation, IsPermutation-map, IsPermutation-trans}
 use Rattle.std.proofs.lemmas.Map.Keys.{IsDistinct-IsPermutation, IsStrictlyIncreasing-from_distinct}
 use Rattle.set_model.specs.Keys.{is_in, keys_set}
-use Rattle.set_model.specs.declared.entry.Entry.{Entry}
 use Rattle.set_model.proofs.LawKeys.{keys_set-IsPermutation}
 use Rattle.set_model.proofs.LawRising.{rising_list_is_one}
-use Rattle.chain.specs.Chain.{Asked, IsOfRecord, RoundEnd, begun_in, chain_of, entries_of, no_key, number_of_entry, numbers_in}
-use Rattle.chain.specs.Changing.{HaveEachKeyOnce, changing_in, changing_of, is_changing, keys_asked, keys_of_numbers}
+use Rattle.chain.specs.Chain.{Asked, IsOfRecord, RoundEnd, begun_in, entries_of, number_of_entry, numbers_in}
+use Rattle.chain.specs.Changing.{changing_in, changing_of, is_changing, keys_of_numbers}
 use Rattle.chain.proofs.Begun.{below-begun_in, is_in-append_left, is_in-append_right, is_in-begun}
 use Rattle.chain.proofs.Once.{inserts_members, inserts_once}
 use Rattle.chain.proofs.Recorded.{IsRecorded}

@@ -1,7 +1,7 @@
 -- What the records ask of the set, by their numbers: each that its id is put in.
-use Rattle.std.proofs.Common.{◌≡◌, ℕ, List, [], ◌∷◌, map, slice_index_or, refl, ap₂, sym}
+use Rattle.std.proofs.Common.{◌≡◌, ℕ, List, [], ◌∷◌, slice_index_or, refl, ap₂}
 use Rattle.std.specs.List.{All}
-use Rattle.std.proofs.lemmas.List.Elements.{All-map, All-nil}
+use Rattle.std.proofs.lemmas.List.Elements.{All-map}
 use Rattle.std.proofs.Math.ListN.{get_or-map}
 use Rattle.set_model.specs.declared.call.Call.TheVariants.{Insert}
 use Rattle.chain.specs.Chain.{Asked, asked_at}

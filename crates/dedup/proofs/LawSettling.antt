@@ -8,7 +8,6 @@ use Rattle.std.proofs.lemmas.List.{length-map, map-append}
 use Rattle.std.proofs.lemmas.List.Elements.{All-map}
 use Rattle.std.proofs.lemmas.Simd.{map-map}
 use Rattle.set_model.specs.History.{IsLegal, members_after, set_after}
-use Rattle.set_model.specs.declared.call.Call.TheVariants.{Insert}
 use Rattle.set_model.specs.declared.entry.Entry.{Entry}
 use Rattle.set_model.proofs.LawHistory.{IsLegal-append, sets_and_tests_agree, set_after-append}
 use Rattle.chain.specs.Chain.{Asked, numbers_by}

@@ -3,7 +3,7 @@ use Rattle.std.specs.Prelude.{◌≡◌, ℕ, List, flat_map, length}
 use Rattle.idfiles.specs.Print.{count_line, id_line, keep_line}
 use Rattle.idfiles.specs.declared.id_record.IdRecord.{IdRecord}
 use Rattle.chain.specs.Chain.{RoundEnd}
-use Rattle.dedup.specs.Records.{AreDistinctIds, AreKept, ids_of}
+use Rattle.dedup.specs.Records.{AreDistinctIds, AreKept}
 use Rattle.dedup.specs.declared.command.Listing.{Listing}
 use Rattle.dedup.specs.declared.command.Listing.TheVariants.{Keep, Ids, Count}
 

@@ -43,6 +43,10 @@ rounds_of closings settled made = []
 abbrev pub round_ended : EndedRound → RoundEnd
 round_ended ended = round_of ended.closing ended.settled ended.made
 
+-- so many workers were in the round
+abbrev pub HasWorkers : ℕ → RoundEnd → Type 0
+HasWorkers count round = length round.made ≡ count
+
 -- the plan of a run's rounds: none of its calls is announced, and its room is at most 2^27 words
 pub record IsRunPlan (plan : Plan) : Type 0 where
   pub fits : IsPlan plan
@@ -76,9 +80,9 @@ pub record SettlesRound (records : List IdRecord) (closing : ClosingValue) (hand
   pub left_is : ended.left.items ≡ left
 
 -- A round that began with the keys, while the records with the numbers in `left` were still to come:
--- it is one of a chain, and what it leaves for the next one.
-pub record AddsRound (records : List IdRecord) (turns : ℕ) (keys left : List ℕ) (ended : EndedRound)
-    : Type 0 where
+-- it is one of a chain, how many workers it had, and what it leaves for the next one.
+pub record AddsRound (records : List IdRecord) (seats turns : ℕ) (keys left : List ℕ)
+    (ended : EndedRound) : Type 0 where
   pub round : IsRunRound (asked_of records) turns (is_in keys) (round_ended ended)
   pub keys_are : (key : ℕ) → is_in ended.keys.items key
       ≡ members_after (is_in keys) (entries_of (round_ended ended)) key
@@ -86,6 +90,7 @@ pub record AddsRound (records : List IdRecord) (turns : ℕ) (keys left : List �
   pub left_are : IsPermutation left (numbers_in (lists_in ended.made) ++ ended.left.items)
   pub fewer : length ended.left.items < length left
   pub changing : IsPermutation (changing_in (round_ended ended)) ended.changed.items
+  pub workers : HasWorkers seats (round_ended ended)
 
 -- These rounds are a chain over the records, of which those in `left` are still to come. The set has
 -- the keys, and these are the numbers of the records whose insert changed it.

@@ -9,7 +9,6 @@ use Rattle.clap.specs.Words.{App, Kinds, Row, Rule, all_of, fault_of, first_of, 
 use Rattle.clap.specs.declared.builder.action.ArgAction.TheVariants.{Append, Set}
 use Rattle.clap.specs.declared.error.kind.ErrorKind.{ErrorKind}
 use Rattle.clap.specs.declared.error.kind.ErrorKind.TheVariants.{OutOfMemory}
-use Rattle.dedup.specs.declared.command.TheConstants.{DEFAULT_ROOM, DEFAULT_WORKERS, MAX_ROOM_DIGITS, MAX_WORKERS_DIGITS}
 use Rattle.dedup.specs.declared.command.Command.{Command}
 use Rattle.dedup.specs.declared.command.Listing.{Listing}
 use Rattle.dedup.specs.declared.command.Listing.TheVariants.{Keep, Ids, Count}
@@ -17,7 +16,7 @@ use Rattle.dedup.specs.declared.fault.Fault.{Fault}
 use Rattle.dedup.specs.declared.fault.Fault.TheVariants.{BadWords}
 use Rattle.dedup.specs.declared.fault.Fault.TheVariants as fault
 use Rattle.idfiles.specs.declared.fault.IdFault.TheVariants.{NoMemory}
-use Rattle.dedup.specs.Limits.{most_files, most_room, most_workers}
+use Rattle.dedup.specs.Limits.{most_files, most_room, most_room_digits, most_workers, most_workers_digits, usual_room, usual_workers}
 
 -- the words as bytes
 abbrev pub texts : List (String Global) → List (List ℕ)
@@ -64,7 +63,7 @@ number_in digits least most value = if is_numeral digits value
 
 -- the number of workers that a value writes
 abbrev pub workers_written : List ℕ → Option ℕ
-workers_written value = number_in MAX_WORKERS_DIGITS 1 most_workers value
+workers_written value = number_in most_workers_digits 1 most_workers value
 
 -- whether a value names the way in which calls are made, of which there is one
 abbrev pub is_way : List ℕ → Bool
@@ -72,7 +71,7 @@ is_way value = bytes_eq value (codes "try")
 
 -- the room that a value writes, in words of 64 bits
 abbrev pub room_written : List ℕ → Option ℕ
-room_written value = number_in MAX_ROOM_DIGITS 0 most_room value
+room_written value = number_in most_room_digits 0 most_room value
 
 -- the list that a value names
 abbrev pub listing_named : List ℕ → Option Listing
@@ -83,7 +82,7 @@ listing_named value = if bytes_eq value (codes "keep") then Some Keep else
 -- the number of workers that is asked for, the default where none is given
 abbrev pub workers_in : List Row → Option ℕ
 workers_in rows =
-    option_map_or workers_written (first_of (codes "workers") rows) (Some DEFAULT_WORKERS)
+    option_map_or workers_written (first_of (codes "workers") rows) (Some usual_workers)
 
 -- whether the way is the one that there is, as it also is where none is given
 abbrev pub has_one_way : List Row → Bool
@@ -91,7 +90,7 @@ has_one_way rows = option_map_or is_way (first_of (codes "way") rows) true
 
 -- the room of a round that is asked for, the default where none is given
 abbrev pub room_in : List Row → Option ℕ
-room_in rows = option_map_or room_written (first_of (codes "room") rows) (Some DEFAULT_ROOM)
+room_in rows = option_map_or room_written (first_of (codes "room") rows) (Some usual_room)
 
 -- the list that is asked for, `keep` where none is given
 abbrev pub listing_in : List Row → Option Listing
@@ -116,11 +115,11 @@ is_command words = is_read words && are_values (rows_in words)
 
 -- the number of workers that the command asks for
 abbrev pub workers_asked : List (List ℕ) → ℕ
-workers_asked words = unwrap_or (workers_in (rows_in words)) DEFAULT_WORKERS
+workers_asked words = unwrap_or (workers_in (rows_in words)) usual_workers
 
 -- the room of a round that the command asks for
 abbrev pub room_asked : List (List ℕ) → ℕ
-room_asked words = unwrap_or (room_in (rows_in words)) DEFAULT_ROOM
+room_asked words = unwrap_or (room_in (rows_in words)) usual_room
 
 -- the list that the command asks for
 abbrev pub list_asked : List (List ℕ) → Listing

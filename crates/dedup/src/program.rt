@@ -1,9 +1,9 @@
 // The run: from words to a status.
-ghost use Rattle.std.specs.Prelude.{◌≡◌, [], length, map};
+ghost use Rattle.std.specs.Prelude.{◌≡◌, [], length, map, All};
 ghost use Rattle.dedup.specs.Fault.{fault_line, no_memory, status_of, status_of_fault};
-ghost use Rattle.dedup.specs.Rounds.{rounds_of};
+ghost use Rattle.dedup.specs.Rounds.{HasWorkers, rounds_of};
 ghost use Rattle.dedup.specs.Run.{Ends, EndsWith, HasCauses, HasRead, ListsFiles, RoseAt, Said};
-ghost use Rattle.dedup.specs.Words.{KeepsLimits, texts};
+ghost use Rattle.dedup.specs.Words.{KeepsLimits, texts, workers_asked};
 
 use crate::command::Command;
 use crate::fault::Fault;
@@ -39,8 +39,9 @@ pub struct Ended {
 }
 
 /// Prints the list that the words ask for: of the distinct ids of their files, rising, each once.
-/// The ids go through the set for threads in rounds; a worker's insert that was refused, for want of
-/// room or after many lost tries, is settled behind its round, and what it left goes to the next one.
+/// The ids go through the set for threads in rounds, each with as many workers as the words ask for; a
+/// worker's insert that was refused, for want of room or after many lost tries, is settled behind its
+/// round, and what it left goes to the next one.
 /// Otherwise it ends with the status of its first fault, whose line it writes to the fault sink; a
 /// fault there changes no status. The gate is called round each insert, of which no clause speaks.
 pub fn run<R: Threads + Sync, I: Inputs, O: Sink, E: Sink, G: Gate>(
@@ -58,6 +59,8 @@ pub fn run<R: Threads + Sync, I: Inputs, O: Sink, E: Sink, G: Gate>(
         (I.files inputs.old) (texts words.now) (I.left inputs.new)
         (O.written out.old) (O.written out.new) (E.faults faults.old)
         (E.faults faults.new) (E.written faults.old) (E.written faults.new) }
+    ensures workers { All (HasWorkers (workers_asked (texts words.now)))
+        (rounds_of result.closings.items result.settled.items result.made.items) }
     ensures settled { length result.settled.items ≡ length result.closings.items }
     ensures made { length result.made.items ≡ length result.closings.items }
     ensures causes { HasCauses result.status
@@ -95,6 +98,7 @@ fn print_list<R: Threads + Sync, I: Inputs, O: Sink, G: Gate>(
     ensures words { HasRead (texts words.now) (status_of result) }
     ensures ends { Ends (I.files inputs.old) (texts words.now) so_far.new (I.left inputs.new)
         (O.written out.old) (O.written out.new) result }
+    ensures workers { All (HasWorkers (workers_asked (texts words.now))) so_far.new }
     ensures causes { HasCauses (status_of result)
         (I.faults inputs.old) (I.faults inputs.new) (O.faults out.old) (O.faults out.new) }
 {
@@ -120,6 +124,7 @@ fn list_of<R: Threads + Sync, I: Inputs, G: Gate>(
     ensures lists { ListsFiles (I.files inputs.old)
         (map (λ name. name.now) asked.now.files.items) so_far.new (I.left inputs.new)
         asked.now.listing result }
+    ensures workers { All (HasWorkers asked.now.workers) so_far.new }
     ensures read { RoseAt 4 (status_of result) (I.faults inputs.old) (I.faults inputs.new) }
 {
     let records = load(alloc, inputs, &asked.files)?;

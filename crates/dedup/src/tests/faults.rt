@@ -1,8 +1,34 @@
 // Each call that can fail, failing in turn.
+ghost use Rattle.std.specs.Prelude.{None};
+
 use super::IDS;
 use super::fixture::{BYTES, Fails, NONE, PIECES, run_on, run_sized, sink};
-use crate::out_of_memory;
+use crate::{out_of_memory, run};
+use outside::{Failed, Inputs, OpenGate};
 use std::test::Fail;
+
+// One file after another, each of line ends without end.
+#[derive(Drop)]
+struct LineEnds;
+
+impl Inputs for LineEnds {
+    ghost faults = { λ _. 0 };
+
+    ghost files = { λ _. None };
+
+    ghost left = { λ _. None };
+
+    fn start(&mut self, _name: &str) -> Result<(), Failed> {
+        Ok(())
+    }
+
+    fn read(&mut self, buf: &mut [u8]) -> Result<usize, Failed> {
+        for byte in buf.iter_mut() {
+            *byte = b'\n';
+        }
+        Ok(buf.len())
+    }
+}
 
 #[test]
 fn each_failed_read_ends_the_run(rt: HostRuntime) -> Result<(), Fail> {
@@ -85,6 +111,31 @@ fn a_read_that_fails_between_large_pieces_ends_the_run(rt: HostRuntime) -> Resul
         // Nothing is put into a set before all is read.
         assert_eq!(rt; outcome.ended.closings.len(), if call == 5 { 1 } else { 0 });
     }
+    Ok(())
+}
+
+#[test]
+fn an_input_without_end_is_too_long(rt: HostRuntime) -> Result<(), Fail> {
+    let alloc = rt.alloc();
+    let words = vec![in alloc;
+        String::from_str(alloc, "dedup")?,
+        String::from_str(alloc, "f")?,
+    ]?;
+    let mut out = sink(alloc, u64::MAX, PIECES)?;
+    let mut faults = sink(alloc, u64::MAX, PIECES)?;
+    let ended = run(
+        &rt,
+        alloc,
+        &words,
+        &mut LineEnds,
+        &mut out,
+        &mut faults,
+        &OpenGate,
+    );
+    assert_eq!(rt; ended.status, 6);
+    assert!(rt; out.bytes().is_empty());
+    assert!(rt; ended.closings.is_empty());
+    assert_eq!(rt; faults.bytes(), b"dedup: file 1 too long\n".as_slice());
     Ok(())
 }
 

@@ -121,6 +121,18 @@ fn the_room_changes_the_rounds_and_not_the_list(rt: HostRuntime) -> Result<(), F
     Ok(())
 }
 
+// The row of a first id takes four words: a word less is too little, and no more are needed.
+#[test]
+fn a_round_has_the_room_that_is_asked_for(rt: HostRuntime) -> Result<(), Fail> {
+    let few = run_in_room(&rt, rt.alloc(), b"5\n", "3")?;
+    let settled = settled_calls(rt.alloc(), &few)?;
+    assert_eq!(rt; settled.as_slice(), [(0, 0, 0, 5, true)].as_slice());
+    let enough = run_in_room(&rt, rt.alloc(), b"5\n", "4")?;
+    assert!(rt; settled_calls(rt.alloc(), &enough)?.is_empty());
+    assert_eq!(rt; enough.out.bytes(), b"5\n".as_slice());
+    Ok(())
+}
+
 // One round takes all three records, and its table doesn't grow.
 #[test]
 fn a_closing_has_the_keys_of_its_round(rt: HostRuntime) -> Result<(), Fail> {

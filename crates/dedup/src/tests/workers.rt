@@ -7,10 +7,11 @@ use std::sync::atomic::{AtomicBool, AtomicU64, Ordering};
 use std::test::Fail;
 use std::thread::Threads;
 
-// Holds the first call of each of two workers until the other has come to its own, for a bounded number
-// of turns.
+// Holds the first call of each worker until all have come to theirs, for a bounded number of turns. A
+// round that follows finds that they have.
 #[derive(Drop)]
 struct Meeting {
+    workers: u64,
     arrived: AtomicU64,
     missed: AtomicBool,
 }
@@ -22,7 +23,7 @@ impl Gate for Meeting {
         }
         self.arrived.fetch_add(1, Ordering::SeqCst);
         for _ in 0..100_000_000u64 {
-            if self.arrived.load(Ordering::SeqCst) >= 2 {
+            if self.arrived.load(Ordering::SeqCst) >= self.workers {
                 return;
             }
         }
@@ -32,68 +33,160 @@ impl Gate for Meeting {
     fn after(&self, _worker: u32, _nth: u64) {}
 }
 
-// Refuses a body that runs the workers one after another, in either order.
+// Refuses a body that runs workers one after another, in whatever order, and one that has fewer threads.
 #[test]
-fn two_workers_work_side_by_side(rt: HostRuntime) -> Result<(), Fail> {
-    let gate = Meeting {
-        arrived: AtomicU64::new(0),
-        missed: AtomicBool::new(false),
-    };
-    let words = [
-        "dedup",
-        "--workers",
-        "2",
-        "--room",
-        "1000",
-        "--list",
-        "ids",
-        "f",
-    ];
-    let files = (b"1\n2\n3\n4\n".as_slice(), b"".as_slice());
-    let outcome = run_gated(&rt, rt.alloc(), &words, files, &NONE, (PIECES, &gate))?;
-    assert_eq!(rt; outcome.out.bytes(), b"1\n2\n3\n4\n".as_slice());
-    assert!(rt; !gate.missed.load(Ordering::SeqCst));
-    assert_eq!(rt; gate.arrived.load(Ordering::SeqCst), 2);
+fn workers_work_side_by_side(rt: HostRuntime) -> Result<(), Fail> {
+    let alloc = rt.alloc();
+    let mut file = Vec::new(alloc);
+    for id in 100..200u64 {
+        file.extend_from_slice(format!(in alloc; "{id}\n")?.as_bytes())?;
+    }
+    for (count, workers) in [("2", 2), ("4", 4), ("64", 64)] {
+        let gate = Meeting {
+            workers,
+            arrived: AtomicU64::new(0),
+            missed: AtomicBool::new(false),
+        };
+        let words = [
+            "dedup",
+            "--workers",
+            count,
+            "--room",
+            "10000",
+            "--list",
+            "ids",
+            "f",
+        ];
+        let files = (file.as_slice(), b"".as_slice());
+        let outcome = run_gated(&rt, alloc, &words, files, &NONE, (PIECES, &gate))?;
+        assert_eq!(rt; outcome.out.bytes(), file.as_slice());
+        assert!(rt; !gate.missed.load(Ordering::SeqCst), "of {count} workers");
+        assert!(rt; gate.arrived.load(Ordering::SeqCst) >= workers);
+    }
     Ok(())
 }
 
-// Counts the calls of the gate, which come in pairs.
+// Of each worker, how many calls of its round are begun and how many are ended.
 #[derive(Drop)]
-struct Counting {
-    before: AtomicU64,
-    after: AtomicU64,
+struct Pairs {
+    begun: [AtomicU64; 3],
+    ended: [AtomicU64; 3],
+    calls: AtomicU64,
+    broken: AtomicBool,
 }
 
-impl Gate for Counting {
-    fn before(&self, _worker: u32, _nth: u64) {
-        self.before.fetch_add(1, Ordering::SeqCst);
+impl Pairs {
+    // Whether the worker's counts are these; they are raised by so much then.
+    fn goes(&self, worker: u32, counts: (u64, u64), more: (u64, u64)) -> bool {
+        let at = worker as usize;
+        match (self.begun.get(at), self.ended.get(at)) {
+            (Some(begun), Some(ended)) => {
+                let found = (begun.load(Ordering::SeqCst), ended.load(Ordering::SeqCst));
+                begun.store(counts.0.wrapping_add(more.0), Ordering::SeqCst);
+                ended.store(counts.1.wrapping_add(more.1), Ordering::SeqCst);
+                found == counts
+            }
+            _ => false,
+        }
+    }
+}
+
+impl Gate for Pairs {
+    fn before(&self, worker: u32, nth: u64) {
+        self.calls.fetch_add(1, Ordering::SeqCst);
+        // A worker's first call is that of a new round.
+        if !self.goes(worker, (nth, nth), (1, 0)) && nth > 0 {
+            self.broken.store(true, Ordering::SeqCst);
+        }
     }
 
-    fn after(&self, _worker: u32, _nth: u64) {
-        self.after.fetch_add(1, Ordering::SeqCst);
+    fn after(&self, worker: u32, nth: u64) {
+        if !self.goes(worker, (nth.wrapping_add(1), nth), (0, 1)) {
+            self.broken.store(true, Ordering::SeqCst);
+        }
     }
 }
 
 #[test]
-fn the_gate_is_called_round_each_insert(rt: HostRuntime) -> Result<(), Fail> {
-    let gate = Counting {
-        before: AtomicU64::new(0),
-        after: AtomicU64::new(0),
-    };
-    let words = [
-        "dedup",
-        "--workers",
-        "3",
-        "--room",
-        "1000",
-        "--list",
-        "ids",
-        "f",
-    ];
-    let files = (b"7\n8\n7\n9\n".as_slice(), b"".as_slice());
-    run_gated(&rt, rt.alloc(), &words, files, &NONE, (PIECES, &gate))?;
-    assert_eq!(rt; gate.before.load(Ordering::SeqCst), 4);
-    assert_eq!(rt; gate.after.load(Ordering::SeqCst), 4);
+fn each_insert_has_a_pair_of_calls_of_the_gate(rt: HostRuntime) -> Result<(), Fail> {
+    for room in ["1000", "0"] {
+        let gate = Pairs {
+            begun: [AtomicU64::new(0), AtomicU64::new(0), AtomicU64::new(0)],
+            ended: [AtomicU64::new(0), AtomicU64::new(0), AtomicU64::new(0)],
+            calls: AtomicU64::new(0),
+            broken: AtomicBool::new(false),
+        };
+        let words = [
+            "dedup",
+            "--workers",
+            "3",
+            "--room",
+            room,
+            "--list",
+            "ids",
+            "f",
+        ];
+        let files = (b"7\n8\n7\n9\n7\n".as_slice(), b"".as_slice());
+        let outcome = run_gated(&rt, rt.alloc(), &words, files, &NONE, (PIECES, &gate))?;
+        let mut begun = 0u64;
+        for workers in &outcome.ended.made {
+            assert_eq!(rt; workers.len(), 3);
+            for numbers in workers {
+                begun = begun.wrapping_add(numbers.len() as u64);
+            }
+        }
+        assert!(rt; !gate.broken.load(Ordering::SeqCst), "in room {room}");
+        assert_eq!(rt; gate.calls.load(Ordering::SeqCst), begun);
+    }
+    Ok(())
+}
+
+// Holds one worker's calls until the other's are over, for a bounded number of turns.
+#[derive(Drop)]
+struct Late {
+    worker: u32,
+    over: AtomicBool,
+    missed: AtomicBool,
+}
+
+impl Gate for Late {
+    fn before(&self, worker: u32, _nth: u64) {
+        if worker != self.worker {
+            return;
+        }
+        for _ in 0..100_000_000u64 {
+            if self.over.load(Ordering::SeqCst) {
+                return;
+            }
+        }
+        self.missed.store(true, Ordering::SeqCst);
+    }
+
+    fn after(&self, worker: u32, _nth: u64) {
+        if worker != self.worker {
+            self.over.store(true, Ordering::SeqCst);
+        }
+    }
+}
+
+// Refuses a body that calls the gate behind the insert where it should before: of one id on two lines
+// the one whose worker isn't late is kept, each time.
+#[test]
+fn the_gate_is_called_before_an_insert(rt: HostRuntime) -> Result<(), Fail> {
+    for _ in 0..10 {
+        for (worker, kept) in [(0, b"7 1:2\n"), (1, b"7 1:1\n")] {
+            let gate = Late {
+                worker,
+                over: AtomicBool::new(false),
+                missed: AtomicBool::new(false),
+            };
+            let words = ["dedup", "--workers", "2", "--room", "1000", "f"];
+            let files = (b"7\n7\n".as_slice(), b"".as_slice());
+            let outcome = run_gated(&rt, rt.alloc(), &words, files, &NONE, (PIECES, &gate))?;
+            assert_eq!(rt; outcome.out.bytes(), kept.as_slice());
+            assert!(rt; !gate.missed.load(Ordering::SeqCst));
+        }
+    }
     Ok(())
 }
 

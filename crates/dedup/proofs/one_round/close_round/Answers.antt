@@ -1,14 +1,12 @@
-use Rattle.std.proofs.Common.{◌≡◌, List, flat_map, length, map, sym, ap, ◌∙◌, subst, IfOk, Result, Ok, Err, arith}
+use Rattle.std.proofs.Common.{List, flat_map, length, map, sym, ap, ◌∙◌, subst, arith}
 use Rattle.std.specs.List.{All}
 use Rattle.std.proofs.lemmas.Result.{IfOk-weaker}
 use Rattle.cells.specs.Ends.{AreAllPasses}
 use Rattle.cells.specs.Tokens.{PassValue}
 use Rattle.rounds.specs.Halts.{AreAtRest}
-use Rattle.step_core.specs.Limits.{max_passes}
 use Rattle.dedup.specs.Crews.{rest_of}
 use Rattle.dedup.specs.Rounds.{AddsRound, ClosesRound, SettlesRound}
 use Rattle.dedup.specs.Settling.{CanSettle}
-use Rattle.dedup.specs.declared.one_round.EndedRound.{EndedRound}
 use Rattle.dedup.specs.declared.worker.Hand.{Hand}
 use Rattle.dedup.specs.declared.worker.Worker.{Worker}
 use Rattle.dedup.proofs.LawClosing.{all_at_rest, all_passes, can_settle, ends_round, few_hands}
@@ -55,7 +53,7 @@ returns c =
     let rests = c.in_ok-rests.rests.items in
     let rests_are = c.in_ok-rests.ensures ∙ ap (λ (all : List Worker). flat_map (rest_of left) all) c.deref.ensures.value in
     IfOk-weaker c.settled_round.result (SettlesRound records c.in_ok-closing.closing c.in_ok-passes.field-0.hands.items rests)
-    (AddsRound records round.plan.fast round.facts.keys left)
+    (AddsRound records round.facts.seats round.plan.fast round.facts.keys left)
     (λ ended settles.
     ends_round records round left workers c.requires.job c.requires.done c.in_ok-closing.closing closes rests ended
     (subst (λ (hs : List Hand). SettlesRound records c.in_ok-closing.closing hs rests ended) c.in_ok-passes.ensures.hands settles)

@@ -1,4 +1,4 @@
-use Rattle.std.proofs.Common.{◌≡◌, drop, length, map, take}
+use Rattle.std.proofs.Common.{◌≡◌, drop, length, take}
 use Rattle.dedup.specs.Rounds.{lists_in}
 use Rattle.dedup.specs.Settling.{lists_of}
 use Rattle.dedup.proofs.one_round.lists_by.Given as goal

@@ -1,10 +1,10 @@
-use Rattle.std.proofs.Common.{◌≡◌, ◌<◌, List, length, map, slice_index_or, sym, subst}
+use Rattle.std.proofs.Common.{◌≡◌, List, map, sym, subst}
 use Rattle.std.specs.FinSet as set
 use Rattle.std.specs.List.{All}
 use Rattle.set_model.specs.declared.entry.Entry.{Entry}
 use Rattle.chain.specs.Workers.{AreSettled}
 use Rattle.dedup.specs.Records.{asked_of}
-use Rattle.dedup.specs.Settling.{CanSettle, HasCall, handed_in}
+use Rattle.dedup.specs.Settling.{HasCall, handed_in}
 use Rattle.dedup.specs.declared.worker.Hand.{Hand}
 use Rattle.dedup.proofs.LawSettling.{settled_calls}
 use Rattle.dedup.proofs.one_round.settled_round.Goals as goal

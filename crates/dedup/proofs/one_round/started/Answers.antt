@@ -1,4 +1,4 @@
-use Rattle.std.proofs.Common.{◌≡◌, ◌+◌, ◌*◌, ◌<◌, ◌≤◌, ◌^◌, ℕ, length, sym, ap, subst, arith}
+use Rattle.std.proofs.Common.{◌≡◌, ◌+◌, ◌<◌, length, ap, subst, arith}
 use Rattle.rounds.specs.Starts.{RefusesStart, round_words}
 use Rattle.step_core.specs.Limits.{max_words}
 use Rattle.step_core.specs.Openings.{exponent_for, opening_words}

@@ -1,6 +1,5 @@
-use Rattle.std.proofs.Common.{◌≡◌, ℕ, List, [], flat_map, length, sym, ap, ◌∙◌, subst, arith}
+use Rattle.std.proofs.Common.{◌≡◌, ℕ, List, flat_map, length, sym, ap, ◌∙◌, subst, arith}
 use Rattle.std.proofs.lemmas.Result.{IfOk-weaker}
-use Rattle.chain.specs.Chain.{RoundEnd}
 use Rattle.idfiles.specs.Print.{count_line, id_line}
 use Rattle.idfiles.specs.declared.id_record.IdRecord.{IdRecord}
 use Rattle.dedup.specs.Output.{IsListing, kept_line}

@@ -1,4 +1,4 @@
-use Rattle.std.proofs.Common.{◌≡◌, ◌∷◌, ◌++◌, [], rules, sym, ap, ◌∙◌}
+use Rattle.std.proofs.Common.{◌∷◌, ◌++◌, [], sym, ap, ◌∙◌}
 use Rattle.dedup.proofs.LawLists.{range_with_len-more}
 use Rattle.dedup.proofs.phase.numbers_below.Goals as goal
 

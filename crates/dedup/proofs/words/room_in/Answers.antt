@@ -3,18 +3,18 @@ use Rattle.std.specs.Option.{option_map_or}
 use Rattle.clap.proofs.WalkLemmas.{first_value-rows}
 use Rattle.clap.specs.Words.{found_of}
 use Rattle.dedup.specs.Words.{room_written}
-use Rattle.dedup.specs.declared.command.TheConstants.{DEFAULT_ROOM}
+use Rattle.dedup.specs.Limits.{usual_room}
 use Rattle.dedup.proofs.words.room_in.Goals as goal
 
 -- a room is given
 pub returns-in-Some-clause-value : goal.returns-in-Some-clause-value
 returns-in-Some-clause-value c =
     c.number_in.ensures.value
-    ∙ ap (λ given. option_map_or room_written given (Some DEFAULT_ROOM))
+    ∙ ap (λ given. option_map_or room_written given (Some usual_room))
     (c.in-Some.ensures ∙ first_value-rows (found_of c.args.matches.now) (codes "room"))
 
 -- none is
 pub returns-in-None-clause-value : goal.returns-in-None-clause-value
 returns-in-None-clause-value c =
-    ap (λ given. option_map_or room_written given (Some DEFAULT_ROOM))
+    ap (λ given. option_map_or room_written given (Some usual_room))
     (c.in-None.ensures ∙ first_value-rows (found_of c.args.matches.now) (codes "room"))

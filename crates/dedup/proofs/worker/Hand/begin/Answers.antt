@@ -1,8 +1,5 @@
-use Rattle.std.proofs.Common.{◌≡◌, ◌∷◌, ◌++◌, [], rules, refl, sym, ap, ◌∙◌, subst}
-use Rattle.set_model.specs.declared.call.Call.TheVariants.{Insert}
-use Rattle.fset.specs.declared.outcomes.Outcome.TheVariants.{Busy, Full}
-use Rattle.hash_set.specs.Calls.{EndsCall}
-use Rattle.dedup.proofs.LawHands.{BeginsInsert, goes_answered, goes_refused, id_at}
+use Rattle.std.proofs.Common.{◌≡◌, ◌∷◌, ◌++◌, [], rules, refl}
+use Rattle.dedup.proofs.LawHands.{BeginsInsert, goes_answered, goes_refused}
 use Rattle.dedup.proofs.worker.Hand.begin.Goals as goal
 
 -- the insert was answered

@@ -30,12 +30,23 @@ class Run:
     complaint: str
 
 
+@dataclass(frozen=True)
+class Rounds:
+    """The rounds of a run of dedup."""
+
+    count: int
+    # The words of their openings and those that workers drew.
+    words: int
+
+
 @dataclass
 class Row:
     """The runs of one program over one input."""
 
     program: Program
     runs: list[Run] = field(default_factory=list)
+    # Of one more run, where the program works in rounds and they could be told.
+    rounds: Rounds | None = None
 
     def failed(self) -> bool:
         return any(run.status != 0 for run in self.runs)

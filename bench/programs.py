@@ -18,6 +18,8 @@ class Program:
     words: tuple[str, ...]
     # It prints the distinct ids, rising, one a line, and nothing else.
     rising: bool
+    # It is dedup, which works in rounds.
+    in_rounds: bool = False
 
 
 # The program that all others are compared with.
@@ -51,7 +53,10 @@ def yardsticks(folder: Path, missing: list[str]) -> list[Program]:
 def dedups(program: Path, workers: list[str], lists: list[str]) -> list[Program]:
     """dedup with each list, by each number of workers."""
     options = [("--workers", count, "--list", listing) for listing in lists for count in workers]
-    return [Program(f"dedup {' '.join(words)}", (str(program), *words), words[-1] == "ids") for words in options]
+    return [
+        Program(f"dedup {' '.join(words)}", (str(program), *words), rising=words[-1] == "ids", in_rounds=True)
+        for words in options
+    ]
 
 
 def build(folder: Path, source: str, compiler: tuple[str, ...], missing: list[str]) -> Path | None:

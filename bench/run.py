@@ -10,6 +10,7 @@ from inputs import KINDS, input_file
 from laps import memory_floor, run_laps
 from machine import machine_lines
 from programs import build, dedups, yardsticks
+from rounds import build_rounds, tell_rounds
 from table import column_widths, print_head, print_rows
 
 
@@ -21,12 +22,15 @@ def main() -> None:
     if generator is None:
         sys.exit(f"bench: no inputs can be made: missing {missing[0]}")
     programs = yardsticks(options.folder, missing) + dedups(options.dedup, options.workers, options.lists)
+    teller = build_rounds(options.folder, missing)
     widths = column_widths(KINDS, options.sizes, programs)
     print_head(widths)
     for size in options.sizes:
         for kind in KINDS:
             file = input_file(options.folder, generator, kind, size)
-            print_rows(kind, size, run_laps(programs, file, options.runs, options.folder), widths)
+            rows = run_laps(programs, file, options.runs, options.folder)
+            tell_rounds(teller, rows, file)
+            print_rows(kind, size, rows, widths)
     print()
     print(f"- least memory that a row can show: {memory_floor(options.folder) / 1e6:.0f} MB")
     for line in machine_lines(missing):

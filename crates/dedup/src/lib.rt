@@ -5,8 +5,8 @@
 //! Workers insert the ids into the set for threads, in one *round* after another. The run ends with a
 //! *status*: 0 where the list was printed, else the number of its *fault*, which it reports by one
 //! line on the fault sink. The contract of `run` says what is printed, by which history of a plain
-//! set, and what each status means; how many threads and rounds there were, only tests show. The
-//! smallest use is the test `prints_each_id_once`.
+//! set, and what each status means. It doesn't say how many rounds there are, and that workers run at
+//! once only tests show. The smallest use is the test `prints_each_id_once`.
 #![tactic(auto)]
 
 mod command;

@@ -19,13 +19,13 @@ pub(crate) fn text_of(
     records: &[IdRecord],
     inserted: &Inserted,
 ) -> Result<Vec<u8>, NoMemory>
-    requires { All (λ number. number < length records.now) inserted.now.changing.items }
+    requires { All (λ number. number < length records.now) inserted.now.changed.items }
     ensures { IfOk result (λ text. (rounds : List RoundEnd) (turns : ℕ)
         → HasInserted records.now turns rounds inserted.now.keys.items []
-        inserted.now.changing.items → IsListing listing records.now rounds text.items) }
+        inserted.now.changed.items → IsListing listing records.now rounds text.items) }
 {
     match listing {
-        Listing::Keep => kept_text(alloc, &kept(alloc, records, &inserted.changing)?),
+        Listing::Keep => kept_text(alloc, &kept(alloc, records, &inserted.changed)?),
         Listing::Ids => ids_text(alloc, &inserted.keys),
         Listing::Count => counts_text(alloc, records.len() as u64, inserted.keys.len() as u64),
     }

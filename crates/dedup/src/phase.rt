@@ -32,11 +32,11 @@ pub(crate) struct Inserted {
     /// The keys of the set, rising.
     pub(crate) keys: Vec<u64>,
     /// The numbers of the records whose insert changed the set.
-    pub(crate) changing: Vec<u32>,
+    pub(crate) changed: Vec<u32>,
 }
 
 /// Puts the ids of all records into the set, in as many rounds as it takes. Where memory is refused
-/// `so_far` has a front of them.
+/// `so_far` has rounds that ended before that, behind which records may be left.
 pub(crate) fn insert_all<R: Threads + Sync, G: Gate>(
     rt: &R,
     alloc: Global,
@@ -47,29 +47,29 @@ pub(crate) fn insert_all<R: Threads + Sync, G: Gate>(
     requires few { length phase.now.records.now ≤ max_keys }
     requires none { so_far.old ≡ [] }
     ensures inserted { IfOk result (λ inserted. HasInserted phase.now.records.now
-        phase.now.plan.fast so_far.new inserted.keys.items [] inserted.changing.items) }
+        phase.now.plan.fast so_far.new inserted.keys.items [] inserted.changed.items) }
     ensures chain { (left : List ℕ)
         × IsRunChain (asked_of phase.now.records.now) phase.now.plan.fast so_far.new left }
     ensures workers { All (HasWorkers phase.now.plan.seats) so_far.new }
 {
     let mut keys = Vec::new(alloc);
-    let mut changing = Vec::new(alloc);
+    let mut changed = Vec::new(alloc);
     let mut left = numbers_below(alloc, phase.records.len())?;
     'rounds: while !left.is_empty() {
         let EndedRound {
             closing,
             settled,
             made,
-            changed,
+            changed: more,
             keys: next,
             left: rests,
         } = one_round(rt, alloc, phase, keys, &left)?;
-        changing.extend_from_slice(&changed)?;
+        changed.extend_from_slice(&more)?;
         so_far.push(closing, settled, made)?;
         keys = next;
         left = rests;
     }
-    Ok(Inserted { keys, changing })
+    Ok(Inserted { keys, changed })
 }
 
 // The numbers of so many records.

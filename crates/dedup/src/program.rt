@@ -19,9 +19,10 @@ use set_model::Entry;
 use std::alloc::Global;
 use std::thread::Threads;
 
-/// How a run ended, and what its rounds were. The three lists have one member for each round, in
-/// order. With status 1 they have a front of the run's rounds, as far as memory was found; with 2, 3,
-/// 4 and 6 there is none.
+/// How a run ended, and what its rounds were. The three lists have one member for each round that is
+/// told, in order. With status 0 and 5 those are all, and each record's insert was answered in one of
+/// them; with status 1 they are a chain that records may still be missing from, and how many there are
+/// isn't said; with 2, 3, 4 and 6 there is none.
 #[derive(Drop)]
 pub struct Ended {
     /// 0 where the list was written; 1 out of memory; 2 the words are not the command; 3 a line of

@@ -170,7 +170,7 @@ fn a_fault_in_the_fault_line_changes_no_status(rt: HostRuntime) -> Result<(), Fa
 
 #[test]
 fn refused_memory_ends_the_run_with_nothing_printed(rt: HostRuntime) -> Result<(), Fail> {
-    // Run with each allocation refused in turn; with none refused it is a plain run.
+    // Here memory is ample. Run by hand with each allocation refused in turn, it ends in the other way.
     let outcome = run_on(&rt, rt.alloc(), &IDS, b"3\n1\n3\n", b"", &NONE)?;
     if outcome.ended.status == 0 {
         assert_eq!(rt; outcome.out.bytes(), b"1\n3\n".as_slice());

@@ -12,9 +12,9 @@ use Rattle.dedup.proofs.output.text_of.Goals as goal
 pub returns-in_ok-kept-in-Keep : goal.returns-in_ok-kept-in-Keep
 returns-in_ok-kept-in-Keep c =
     let records = c.args.records.now in
-    let changing = c.args.inserted.now.changing.items in
+    let changed = c.args.inserted.now.changed.items in
     let kept : List IdRecord = c.in_ok-kept-in-Keep.field-0.items in
-    let sorted : AreSorted records changing kept =
+    let sorted : AreSorted records changed kept =
     subst (λ (numbers : List ℕ). AreSorted records numbers kept) c.deref.ensures.value c.in_ok-kept-in-Keep.ensures in
     IfOk-weaker c.kept_text.result _ _ (λ text is rounds turns inserted.
     subst (λ (listing : Listing). IsListing listing records rounds text.items) (sym c.in-Keep.is)

@@ -41,14 +41,14 @@ rounds-preserved g c =
     let ends : AddsRound records seats fast c.rounds.keys.items c.rounds.left.items ended =
     subst (λ (numbers : List ℕ). AddsRound records seats fast c.rounds.keys.items numbers ended) c.deref.ensures.value c.in_ok-closing.ensures in
     let rounds : c.push.new.self ≡ c.rounds.so_far ++ round_ended ended ∷ [] = c.in_ok-push.ensures.round in
-    let changing : c.extend_from_slice.new.self.items ≡ c.rounds.changing.items ++ ended.changed.items =
-    subst (λ (numbers : List ℕ). c.extend_from_slice.new.self.items ≡ c.rounds.changing.items ++ numbers) c.deref-in-rounds.ensures.value
+    let changed : c.extend_from_slice.new.self.items ≡ c.rounds.changed.items ++ ended.changed.items =
+    subst (λ (numbers : List ℕ). c.extend_from_slice.new.self.items ≡ c.rounds.changed.items ++ numbers) c.deref-in-rounds.ensures.value
     c.in_ok-extend_from_slice.ensures.items in
     record {
       inserted = subst (λ (all : List RoundEnd). HasInserted records fast all ended.keys.items ended.left.items
           c.extend_from_slice.new.self.items) (sym rounds)
           (subst (λ (numbers : List ℕ). HasInserted records fast (c.rounds.so_far ++ round_ended ended ∷ []) ended.keys.items
-          ended.left.items numbers) (sym changing) (inserted_push c.rounds.invariant.inserted seats ended ends));
+          ended.left.items numbers) (sym changed) (inserted_push c.rounds.invariant.inserted seats ended ends));
       workers = subst (All (HasWorkers seats)) (sym rounds)
           (All-push (HasWorkers seats) c.rounds.so_far (round_ended ended) c.rounds.invariant.workers ends.workers);
     }

@@ -37,7 +37,7 @@ returns-in_err-inserted-clause-lists g c =
 -- the numbers are those of records
 pub text_of-requires : goal.text_of-requires
 text_of-requires g c =
-    subst (λ (all : List IdRecord). All (λ number. number < length all) c.in_ok-inserted.inserted.changing.items)
+    subst (λ (all : List IdRecord). All (λ number. number < length all) c.in_ok-inserted.inserted.changed.items)
     (c.deref-2.ensures.value ∙ sym c.deref-3.ensures.value) (changing_below c.in_ok-inserted.ensures.inserted)
 
 -- memory was refused for the text
@@ -62,9 +62,9 @@ returns-clause-lists g c =
     let rounds = c.insert_all.new.so_far in
     let fast = c.plan.result.fast in
     let seen = c.deref-3.result.now in
-    let inserted : HasInserted seen fast rounds c.in_ok-inserted.inserted.keys.items [] c.in_ok-inserted.inserted.changing.items =
+    let inserted : HasInserted seen fast rounds c.in_ok-inserted.inserted.keys.items [] c.in_ok-inserted.inserted.changed.items =
     subst (λ (all : List IdRecord). HasInserted all fast rounds c.in_ok-inserted.inserted.keys.items []
-    c.in_ok-inserted.inserted.changing.items) (c.deref-2.ensures.value ∙ sym c.deref-3.ensures.value)
+    c.in_ok-inserted.inserted.changed.items) (c.deref-2.ensures.value ∙ sym c.deref-3.ensures.value)
     c.in_ok-inserted.ensures.inserted in
     lists_all told left c.deref.result.now files c.deref.ensures.value rounds c.args.asked.now.listing c.in_ok-records.records
     c.in_ok-records.ensures.answer seen c.deref-3.ensures.value fast c.in_ok-text_of.field-0 (ap (λ plan. plan.fast) c.plan.ensures)

@@ -1,2 +1,5 @@
+pub mod Published
+pub mod Named
+pub mod Held
 pub mod Replaced
 pub mod Members

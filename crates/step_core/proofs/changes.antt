@@ -3,3 +3,6 @@ pub mod Named
 pub mod Held
 pub mod Replaced
 pub mod Members
+pub mod Filled
+pub mod Frozen
+pub mod Headed

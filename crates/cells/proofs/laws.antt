@@ -22,6 +22,8 @@ pub mod AfterDraws
 pub mod WritesAddUp
 pub mod Paid
 pub mod FoundBucket
+pub mod Hindsight
+pub mod Marking
 pub mod Facts
 pub mod Opens
 pub mod Cutting

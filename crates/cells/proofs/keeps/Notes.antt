@@ -55,7 +55,7 @@ module _ {facts : RoundFacts} {words : List ℕ} {state : RoundState} {history :
   goes =
       let begun = round.past.begun old.number old there in
       sees_goes round old heard there refl (prefix_refl old.front) begun.front begins (round.fits.known old.number old there)
-      (round.so_far.given old.number old there) (λ alone. refl)
+      (round.so_far.given old.number old there) (round.hindsight old.number old there).marks (λ alone. refl)
 
   -- the invariant holds with the front that the pass heard
   hear_view : HoldsRound facts words (put round old heard there goes state.owners state.next) history
@@ -72,7 +72,8 @@ module _ {facts : RoundFacts} {words : List ℕ} {state : RoundState} {history :
   note_goes =
       let begun = round.past.begun old.number old there in
       sees_goes round old (view_after_note old) there refl (prefix_refl old.front) begun.front begun.heard
-      (round.fits.known old.number old there) (round.so_far.given old.number old there) (λ alone. refl)
+      (round.fits.known old.number old there) (round.so_far.given old.number old there)
+      (round.hindsight old.number old there).marks (λ alone. refl)
 
   -- the invariant holds with it
   note_view : HoldsRound facts words (put round old (view_after_note old) there note_goes state.owners state.next) history
@@ -110,7 +111,7 @@ sound_noted view sound = record {
   hands_unknown = λ at other place word too. sound.hands_unknown at other place (record { begun = word.begun; within = word.within })
       (record { block = too.block; known = too.known; begun = too.begun; within = too.within });
   lone = sound.lone;
-  so_far = record { first = sound.so_far.first; no_op = sound.so_far.no_op; no_mark = sound.so_far.no_mark; given = sound.so_far.given };
+  so_far = record { first = sound.so_far.first; no_op = sound.so_far.no_op; given = sound.so_far.given };
 }
 
 -- and the pass is whole with it

@@ -1,5 +1,5 @@
 -- The exchange of a row keeps the invariant, won or lost.
-use Rattle.std.proofs.Common.{◌≡◌, ◌≢◌, ⊎_elim, ℕ, ◌+◌, ◌<◌, ◌≤◌, Bool, true, cond, List, [], ◌∷◌, ◌++◌, get_or, set, Option, Some, None, All, refl, sym, ap, ◌∙◌, subst, arith, append-nil, eq-eqb, ne_eqb}
+use Rattle.std.proofs.Common.{◌≡◌, ◌≢◌, inl, ⊎_elim, ℕ, ◌+◌, ◌<◌, ◌≤◌, Bool, true, cond, List, [], ◌∷◌, ◌++◌, get_or, set, Option, Some, None, All, refl, sym, ap, ◌∙◌, subst, arith, append-nil, eq-eqb, ne_eqb}
 use mathlib.Core.Option.{some}
 use lib.ListN.{get_elem?}
 use native.Mathlib.Decide.{ℕ_discrete}
@@ -33,6 +33,7 @@ use Rattle.cells.specs.Past.{decided_entry, entries_by, flying_entry}
 use Rattle.cells.proofs.keeps.LoseSwap.{lost_moved}
 use Rattle.cells.proofs.laws.Entries.{entries_by-own, entries_by-other}
 use Rattle.cells.proofs.laws.Given.{given_published}
+use Rattle.cells.proofs.laws.Hindsight.{KeepsStanding, content_stays, hindsight_keeps}
 use Rattle.cells.proofs.laws.Lone.{generation_in-stays, is_untouched-same, table_stays}
 use Rattle.cells.proofs.laws.LoneRound.{lone_front}
 use Rattle.cells.proofs.parts.PutState.{Sees, sum_by-put, there_inside, each_sees, put_state}
@@ -83,6 +84,26 @@ module _ {facts : RoundFacts} {words : List ℕ} {state : RoundState} {history :
   flying None = refl
   flying (Some from) = decided from (state.blocks from) refl
 
+  -- what stood has stood
+  standing : KeepsStanding facts.keys state.blocks state.cells history (after s).blocks (after s).cells (new_history s)
+  standing =
+      let chain = s.round.fits.holds.chain in
+      record {
+        rows = λ from other here. stays chain (replaces s) from (Row other) here;
+        generations = λ from other here. stays chain (replaces s) from (Generation other) here;
+        contents = λ from other key here. content_stays state.blocks (after s).blocks state.cells (after s).cells other key (λ some_op.
+            let op = (s.round.fits.holds.homes from other here).op some_op in (
+              stays chain (replaces s) other.op (Op op.op) op.there ∙ sym op.there,
+              result_stays chain (replaces s) other.op op.op op.there,
+            ));
+        grows = (entry s ∷ [], refl);
+        frozen = λ from generation bucket here within odd. ⊎_elim
+            (λ (touched : (from ≡ s.may.turn.head) × (bucket ≡ s.may.bucket) × ((after s).cells from bucket ≡ mutable_word s.at)).
+            let is = touched.2 in absurd (omega arith))
+            (λ (kept : (after s).cells from bucket ≡ state.cells from bucket). inl kept)
+            (cell_cases chain (replaces s) from bucket);
+      }
+
   -- what the views owe before and after
   abbrev Before : ℕ → PassView → Type 0
   Before = Sees facts state.head state.blocks state.cells history (wins_of state.views)
@@ -119,7 +140,7 @@ module _ {facts : RoundFacts} {words : List ℕ} {state : RoundState} {history :
           there_inside state.views s.old.number s.old s.there,
           s.round.fits.passes,
         ));
-        no_mark = sees.no_mark;
+        hindsight = hindsight_keeps standing pass view sees.hindsight;
         given = sees.given;
       }
 
@@ -203,7 +224,9 @@ module _ {facts : RoundFacts} {words : List ℕ} {state : RoundState} {history :
         paid = record { lost = omega (arith, wins_more, was.paid.lost); turn = λ turn is. absurd (cc) };
         alone = λ alone. table_stays s.old (new_view s) refl (same_generation alone) (same_untouched alone)
             state.head (after s).blocks (after s).cells refl (table alone);
-        no_mark = was.no_mark;
+        hindsight =
+            let noted = hindsight_keeps standing s.old.number s.old was.hindsight in
+            record { marks = noted.marks; heads = noted.heads; nils = noted.nils };
         given = given_published facts.keys (new_history s) (after s).blocks (known_block s.at (Row (row s)) ∷ s.old.known)
             (stands s).given row_known;
       }

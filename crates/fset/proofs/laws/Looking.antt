@@ -3,8 +3,6 @@ use Rattle.std.proofs.Common.{◌≡◌, ℕ, ◌+◌, ◌^◌, ◌<◌, ◌≤�
 use Rattle.std.proofs.Math.Nat.{mod-lt}
 use Rattle.std.proofs.lemmas.Nat.{pow_pos}
 use Rattle.std.specs.List.{Contains}
-use Rattle.set_model.specs.History.{members_after}
-use Rattle.set_model.specs.Keys.{is_in}
 use Rattle.step_core.specs.Buckets.{key_bucket}
 use Rattle.step_core.specs.Content.{InClass, spot_of}
 use Rattle.step_core.specs.Format.{row_address}
@@ -16,14 +14,14 @@ use Rattle.step_core.specs.declared.views.PassView.{PassView}
 use Rattle.cells.specs.Exchanges.{load_of}
 use Rattle.cells.specs.Frames.{after_reads}
 use Rattle.cells.specs.Known.{known_block, IsBucketWord, KnowsBucket, KnowsGeneration}
+use Rattle.cells.specs.Marks.{IsMarkedFor}
 use Rattle.cells.specs.Sound.{IsSound}
 use Rattle.cells.specs.Steps.{LoadsBucket, LoadsHead, LoadsSealed}
-use Rattle.cells.proofs.laws.BucketLoads.{load_bucket_among, load_bucket_learned, load_bucket_grows, load_bucket_lost_none, load_bucket_mutable}
+use Rattle.cells.proofs.laws.BucketLoads.{load_bucket_among, load_bucket_learned, load_bucket_grows, load_bucket_lost_none}
 use Rattle.cells.proofs.laws.HeadLoads.{load_head_knows, load_head_turn, load_sealed_still}
 use Rattle.cells.proofs.laws.Known.{knows_more}
 use Rattle.cells.proofs.laws.Sealed.{exponent_word}
 use Rattle.cells.proofs.laws.Within.{generation_within}
-use Rattle.fset.specs.Content.{front_has}
 use Rattle.fset.specs.Frames.{Grows, KeepsOwn}
 use Rattle.fset.specs.Seeking.{HasKeyBucket, LoadsKeyBucket}
 use Rattle.fset.proofs.laws.Frames.{behind_self, grows_then, own_then, reads_grow, reads_own}
@@ -150,11 +148,10 @@ module _ (v0 v1 v2 : PassView) (head exponent : ℕ) (heads : LoadsHead v0 head 
           let at_home = loads.home head (key_bucket heads.generation.exponent key) heads.generation key_bucket_word loads.so_far.some_row in
           ap (λ (e : ℕ). key_bucket e key) at_home.0 ∙ sym at_home.1
 
-      agrees : loads.row.op ≡ 0 → is_in loads.row.keys key ≡ front_has v3 key
-      agrees plain =
-          loads.agrees loads.so_far.some_row loads.so_far.mutable plain key home
-          ∙ (λ i. members_after (is_in (sym (ap (λ (view : PassView). view.facts) loads.view) i).keys)
-          (sym (load_bucket_mutable place v2 word v3 loads loads.so_far.mutable) i) key)
+      -- and is marked for it
+      marked : IsMarkedFor v3 (row_address word) key
+      marked = loads.marked.mutable head (key_bucket heads.generation.exponent key) heads.generation key_bucket_word
+          loads.so_far.some_row loads.so_far.mutable key refl
 
       -- The key's bucket is loaded.
       pub key_bucket_loaded : LoadsKeyBucket key v0 (record { place = place; word = word }) v3
@@ -166,7 +163,7 @@ module _ (v0 v1 v2 : PassView) (head exponent : ℕ) (heads : LoadsHead v0 head 
         own = own;
         loaded = loaded;
         home = home;
-        agrees = agrees;
+        marked = marked;
         spent = ap (λ (view : PassView). view.spent) loads.view ∙ ap (λ (view : PassView). view.spent) still
             ∙ ap (λ (view : PassView). view.spent) heads.view;
         hands = ap (λ (view : PassView). view.hands) loads.view ∙ ap (λ (view : PassView). view.hands) still

@@ -1,5 +1,5 @@
 -- The fixed words of a round, and its blocks by their words.
-use Rattle.std.specs.Prelude.{◌≡◌, ℕ, ◌+◌, ◌*◌, ◌/◌, ◌%◌, ◌^◌, ◌<◌, Bool, if◌then◌else◌, List, [], ◌∷◌, length, slice_index}
+use Rattle.std.specs.Prelude.{◌≡◌, ℕ, ◌+◌, ◌*◌, ◌/◌, ◌%◌, ◌^◌, ◌<◌, Bool, if◌then◌else◌, List, [], ◌∷◌, length, slice_index, bit_or}
 use Rattle.step_core.specs.declared.format.TheConstants.{HEAD, NEXT, FIRST_ANNOUNCED}
 use Rattle.step_core.specs.declared.published.Published.{Published}
 use Rattle.step_core.specs.declared.published.Published.TheVariants.{Generation, Row, Op}
@@ -59,6 +59,10 @@ row_address word = word / 2
 -- the bucket word of a mutable row
 abbrev pub mutable_word : ℕ → ℕ
 mutable_word row = 2 * row
+
+-- the bucket word once it is frozen: it names the same row
+abbrev pub frozen_word : ℕ → ℕ
+frozen_word word = bit_or word 1
 
 -- the words of a row of these keys without an operation
 abbrev pub row_words : List ℕ → List ℕ

@@ -1,6 +1,6 @@
 // Where the words lie: the fixed words from the front on, then each block's own words.
 ghost use Rattle.std.specs.Prelude.{◌≡◌, ◌+◌, ◌*◌, ◌<◌, ◌^◌};
-ghost use Rattle.step_core.specs.Format.{mutable_word, row_address};
+ghost use Rattle.step_core.specs.Format.{frozen_word, mutable_word, row_address};
 
 /// The word that holds the address of the head generation.
 pub const HEAD: u64 = 0;
@@ -54,6 +54,13 @@ pub fn mutable_word(row: u64) -> u64
     ensures { result ≡ mutable_word row }
 {
     2 * row
+}
+
+/// The word of the same bucket once it is frozen. One that is frozen already stays.
+pub fn frozen_word(word: u64) -> u64
+    ensures { result ≡ frozen_word word }
+{
+    word | 1
 }
 
 /// The address of the row that a bucket word names, whether the bucket is frozen or not.

@@ -36,4 +36,24 @@ pub enum Step {
         /// The word that takes its place.
         new: u64,
     },
+    /// Fills a bucket: `new` goes in exactly where the bucket word is 0. Gives the word as it was.
+    InitBucket {
+        /// The bucket word's place.
+        at: u64,
+        /// The word that goes in.
+        new: u64,
+    },
+    /// Freezes a bucket: its word becomes odd, and names the same row. Gives the word as it was.
+    Freeze {
+        /// The bucket word's place.
+        at: u64,
+    },
+    /// Compares HEAD and exchanges it: `new` goes in exactly where HEAD is `old`. Gives HEAD as it
+    /// was.
+    SwapHead {
+        /// The head that is expected.
+        old: u64,
+        /// The address of the generation that takes its place.
+        new: u64,
+    },
 }

@@ -123,6 +123,26 @@ fn each_kind_of_step_does_what_its_row_says(rt: HostRuntime) -> Result<(), Fail>
     Ok(())
 }
 
+// The kinds that generations need, each won and lost: a bucket is filled once, a frozen bucket
+// stays frozen, and HEAD goes from one generation to the next.
+#[test]
+fn a_bucket_is_filled_once_and_frozen_for_good(rt: HostRuntime) -> Result<(), Fail> {
+    let mut words = open_for_one(rt.alloc())?;
+    assert_eq!(rt; step(&mut words, Step::InitBucket { at: 6, new: 20 }), 14);
+    assert_eq!(rt; words.word(6), 14, "a bucket that was filled");
+    assert_eq!(rt; step(&mut words, Step::InitBucket { at: 13, new: 20 }), 0);
+    assert_eq!(rt; words.word(13), 20, "a bucket that was nil");
+    assert_eq!(rt; step(&mut words, Step::Freeze { at: 6 }), 14);
+    assert_eq!(rt; words.word(6), 15, "a bucket that was mutable");
+    assert_eq!(rt; step(&mut words, Step::Freeze { at: 6 }), 15);
+    assert_eq!(rt; words.word(6), 15, "a bucket that was frozen");
+    assert_eq!(rt; step(&mut words, Step::SwapHead { old: 5, new: 10 }), 4);
+    assert_eq!(rt; words.word(0), 4, "a lost head");
+    assert_eq!(rt; step(&mut words, Step::SwapHead { old: 4, new: 10 }), 4);
+    assert_eq!(rt; words.word(0), 10, "a won head");
+    Ok(())
+}
+
 #[test]
 fn refused_memory_is_answered_and_changes_no_word(rt: HostRuntime) -> Result<(), Fail> {
     // Run with each allocation refused in turn; with none refused both calls succeed.

@@ -21,7 +21,7 @@ use Rattle.step_core.specs.declared.views.FilledBucket.{FilledBucket}
 use Rattle.step_core.specs.declared.views.Known.{Known}
 use Rattle.step_core.specs.declared.views.PassView.{PassView}
 use Rattle.step_core.specs.declared.views.RoundFacts.{RoundFacts}
-use Rattle.step_core.proofs.changes.Replaced.{stays, filled_stays, result_stays, cell_cases}
+use Rattle.step_core.proofs.changes.Named.{stays, filled_stays, result_stays, cell_cases}
 use Rattle.step_core.proofs.lists.Histories.{keys_after-push}
 use Rattle.cells.specs.Exchanges.{swap_change, entry_by, MaySwapRow, SwapsRow}
 use Rattle.cells.specs.Invariant.{HoldsRound, IsFilled}
@@ -39,7 +39,7 @@ use Rattle.cells.proofs.laws.LoneRound.{lone_front}
 use Rattle.cells.proofs.parts.PutState.{Sees, sum_by-put, there_inside, each_sees, put_state}
 use Rattle.cells.proofs.parts.PutView.{account_stays}
 use Rattle.cells.proofs.parts.StillPaid.{paid_more}
-use Rattle.cells.proofs.parts.WonSwap.{WonSwap, replaces, row, entry, new_history, new_view, new_words, after, own, serial_is, below, stands}
+use Rattle.cells.proofs.parts.WonSwap.{WonSwap, replaces, names, row, entry, new_history, new_view, new_words, after, own, serial_is, below, stands}
 
 module _ {facts : RoundFacts} {words : List ℕ} {state : RoundState} {history : List Entry} (s : WonSwap facts words state history) where
   -- all exchanges that were won are one more
@@ -49,7 +49,7 @@ module _ {facts : RoundFacts} {words : List ℕ} {state : RoundState} {history :
   -- what was published is so still,
   known_stays : (known : List Known) → All (IsPublished state.blocks) known → All (IsPublished (after s).blocks) known
   known_stays known = All-weaker (IsPublished state.blocks) (IsPublished (after s).blocks)
-      (λ block here. stays s.round.fits.holds.chain (replaces s) block.at block.block here) known
+      (λ block here. stays (names s) block.at block.block here) known
 
   -- and so is the row
   row_known : All (IsPublished (after s).blocks) (known_block s.at (Row (row s)) ∷ s.old.known)
@@ -59,7 +59,7 @@ module _ {facts : RoundFacts} {words : List ℕ} {state : RoundState} {history :
   -- a bucket that was filled is so
   buckets_stay : (filled : List FilledBucket) → All (IsFilled state.cells) filled → All (IsFilled (after s).cells) filled
   buckets_stay filled = All-weaker (IsFilled state.cells) (IsFilled (after s).cells)
-      (λ bucket some_row. filled_stays s.round.fits.holds.chain (replaces s) bucket.at bucket.bucket some_row) filled
+      (λ bucket some_row. filled_stays (names s) bucket.at bucket.bucket some_row) filled
 
   -- an operation that was decided is so, with the same entry
   decided : (from : ℕ) (block : Option Published) → state.blocks from ≡ block
@@ -72,12 +72,12 @@ module _ {facts : RoundFacts} {words : List ℕ} {state : RoundState} {history :
       (updated-cases state.blocks s.at (Some (Row (row s))) from)
   decided from (Some (Generation generation)) is =
       ap (λ (block : Option Published). decided_entry block ((after s).cells from 0))
-      (stays s.round.fits.holds.chain (replaces s) from (Generation generation) is)
+      (stays (names s) from (Generation generation) is)
   decided from (Some (Row other)) is =
       ap (λ (block : Option Published). decided_entry block ((after s).cells from 0))
-      (stays s.round.fits.holds.chain (replaces s) from (Row other) is)
-  decided from (Some (Op op)) is = λ i. decided_entry (stays s.round.fits.holds.chain (replaces s) from (Op op) is i)
-      (result_stays s.round.fits.holds.chain (replaces s) from op is i)
+      (stays (names s) from (Row other) is)
+  decided from (Some (Op op)) is = λ i. decided_entry (stays (names s) from (Op op) is i)
+      (result_stays (names s) from op is i)
 
   -- so an operation in flight has the entry that it had
   flying : (flight : Option ℕ) → flying_entry (after s).blocks (after s).cells flight ≡ flying_entry state.blocks state.cells flight
@@ -151,13 +151,13 @@ module _ {facts : RoundFacts} {words : List ℕ} {state : RoundState} {history :
         let was = s.round.alone s.old.number s.old s.there alone in
         record {
           head_is = was.head_is;
-          generation = stays s.round.fits.holds.chain (replaces s) state.head (Generation (head_generation s.old)) was.generation;
+          generation = stays (names s) state.head (Generation (head_generation s.old)) was.generation;
           nil = λ bucket within test. ⊎_elim
               (λ (touched : (state.head ≡ s.may.turn.head) × (bucket ≡ s.may.bucket)
               × ((after s).cells state.head bucket ≡ mutable_word s.at)).
               absurd ((replaces s).filled (sym (λ i. state.cells (touched.0 i) (touched.1 i)) ∙ was.nil bucket within test)))
               (λ (kept : (after s).cells state.head bucket ≡ state.cells state.head bucket). kept ∙ was.nil bucket within test)
-              (cell_cases s.round.fits.holds.chain (replaces s) state.head bucket);
+              (cell_cases (names s) state.head bucket);
         }
 
     -- it finds the head's generation,

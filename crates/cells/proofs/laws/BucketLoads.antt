@@ -42,8 +42,8 @@ pub is_frozen-mutable : (word : ℕ) → IsMutable word → is_frozen word ≡ f
 is_frozen-mutable word mutable = ne_eqb (word % 2) 1 (λ (odd : word % 2 ≡ 1). omega arith)
 
 -- A word whose test says so is odd, and else it is even.
-pub frozen_word : (word : ℕ) → is_frozen word ≡ true → IsFrozen word
-frozen_word word test = ⊎_elim (λ (odd : word % 2 ≡ 1). odd)
+pub odd_by_test : (word : ℕ) → is_frozen word ≡ true → IsFrozen word
+odd_by_test word test = ⊎_elim (λ (odd : word % 2 ≡ 1). odd)
     (λ (even : word % 2 ≡ 0). absurd (let clash : true ≡ false = sym test ∙ is_frozen-mutable word even in cc)) (odd_or_even word)
 
 -- the turn that an even word leaves, and what it loses

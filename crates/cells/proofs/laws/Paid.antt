@@ -14,7 +14,7 @@ use Rattle.step_core.specs.declared.views.PassView.{PassView}
 use Rattle.cells.specs.Known.{generation_at, bucket_at}
 use Rattle.cells.specs.Paid.{PaysLoad, IsPaidTurn, IsPaid}
 use Rattle.cells.specs.Steps.{is_frozen, bucket_load, loses_turn, turn_after_load, view_after_load_head, view_after_load_bucket}
-use Rattle.cells.proofs.laws.BucketLoads.{noted, frozen_word}
+use Rattle.cells.proofs.laws.BucketLoads.{noted, odd_by_test}
 use Rattle.cells.proofs.parts.StillPaid.{paid_turn_same}
 
 module _ (wins head : ℕ) (cells : ℕ → ℕ → ℕ) (old : PassView) (paid : IsPaid wins head cells old) where
@@ -108,7 +108,7 @@ module _ (wins head : ℕ) (cells : ℕ → ℕ → ℕ) (old : PassView) (paid 
       (λ (loses : loses_turn old place word (Some turn) ≡ true).
       let both = both_true (is_frozen word) (nat_eq (generation_at old.known place) turn.head) loses in
       paid_lost wins head cells old paid new won at bucket word shown mutable turn was
-      (frozen_word word both.0) (sym found_at ∙ same_numbers (generation_at old.known place) turn.head both.1)
+      (odd_by_test word both.0) (sym found_at ∙ same_numbers (generation_at old.known place) turn.head both.1)
       (lost ∙ ap (λ (b : Bool). cond b (old.lost + 1) old.lost) loses)
       (now ∙ ap (λ (b : Bool). cond b None (Some (noted (bucket_load old place word) turn))) loses))
       (λ (keeps : loses_turn old place word (Some turn) ≡ false).

@@ -31,7 +31,8 @@ use Rattle.step_core.specs.declared.published.RowBlock.{RowBlock}
 use Rattle.step_core.specs.declared.views.PassView.{PassView}
 use Rattle.step_core.specs.declared.views.RoundFacts.{RoundFacts}
 use Rattle.step_core.proofs.changes.Members.{changes_members, members_changed}
-use Rattle.step_core.proofs.changes.Replaced.{Replaces, chain_stays, homes_stay, announces_stay, stays, row_was, generation_was, op_was}
+use Rattle.step_core.proofs.changes.Named.{Names, homes_stay, announces_stay, stays, row_was, generation_was, op_was}
+use Rattle.step_core.proofs.changes.Replaced.{Replaces, replacing, chain_replaced}
 use Rattle.step_core.proofs.seen.Held.{row_content-plain}
 use Rattle.step_core.proofs.seen.Shown.{some_word}
 use Rattle.cells.specs.Exchanges.{named_row, hand_keys, swap_entry, swapped_row, MaySwapRow, view_after_swap_row}
@@ -146,6 +147,10 @@ module _ {facts : RoundFacts} {words : List ℕ} {state : RoundState} {history :
     holds = swapped_holds old place word at may before_plain before_holds before_home.0 before_home.1;
   }
 
+  -- so the bucket names it then
+  pub names : Names state.blocks state.cells may.turn.head may.bucket may.generation at row
+  names = replacing replaces
+
   -- the view and the state after the exchange
   abbrev pub new_view : PassView
   new_view = view_after_swap_row history s.serial word at old
@@ -175,7 +180,7 @@ module _ {facts : RoundFacts} {words : List ℕ} {state : RoundState} {history :
       (record { old = old; is_view = there; fronts = KeepsFronts-refl new_view.hands }) in
       subst (λ (p : ℕ). AreLaidOut (length words) facts.seats (set words p (mutable_word at)) after) (sym may.is_word.here)
       (cell_keeps sealed_words open_words hands_of shown may.turn.head may.bucket (mutable_word at) (Generation may.generation)
-      (stays round.fits.holds.chain replaces may.turn.head (Generation may.generation) replaces.here) may.is_word.within)
+      (stays names may.turn.head (Generation may.generation) replaces.here) may.is_word.within)
 
   -- the call is a change, and its entry tells it
   change : IsChange before.keys row.keys entry.call entry.key
@@ -194,7 +199,7 @@ module _ {facts : RoundFacts} {words : List ℕ} {state : RoundState} {history :
   -- which a plain set answers true
   answer_is : entry.answer ≡ answer_where entry.call (members_after (is_in facts.keys) history entry.key)
   answer_is = ap (λ (e : Entry). e.answer) (entry_is old place word at may s.serial)
-      ∙ changes_members round.fits.holds.chain replaces round.fits.holds.homes facts.keys before.keys history entry before before_named
+      ∙ changes_members round.fits.holds.chain replaces facts.keys before.keys history entry before before_named
       content before_holds.rising change in_class round.members
 
   -- it is an entry of the pass
@@ -235,23 +240,23 @@ module _ {facts : RoundFacts} {words : List ℕ} {state : RoundState} {history :
     size = length-set words place (mutable_word at) ∙ round.fits.size;
     holds = record {
       laid = subst (λ (cap : ℕ). AreLaidOut cap facts.seats new_words after) (sym (length-set words place (mutable_word at))) laid;
-      chain = chain_stays round.fits.holds.chain replaces;
-      homes = homes_stay round.fits.holds.chain replaces round.fits.holds.homes;
+      chain = chain_replaced replaces round.fits.holds.chain;
+      homes = homes_stay names round.fits.holds.homes;
     };
-    announces = announces_stay round.fits.holds.chain replaces facts.seats state.announced round.fits.announces;
+    announces = announces_stay names facts.seats state.announced round.fits.announces;
     given = λ from other here. ⊎_elim
         (λ (same : (from ≡ at) × (row ≡ other)). subst (HasGivenKeys facts.keys new_history) same.1 row_given)
         (λ (was : IsRow state.blocks from other).
         given_row facts.keys history new_history other (entry ∷ [], refl) (round.given from other was))
-        (row_was round.fits.holds.chain replaces from other here);
-    members = members_changed round.fits.holds.chain replaces round.fits.holds.homes facts.keys before.keys history entry before before_named
+        (row_was names from other here);
+    members = members_changed round.fits.holds.chain replaces facts.keys before.keys history entry before before_named
         content before_holds.rising change in_class round.members;
     legal = (IsLegal-push (is_in facts.keys) history entry).1 (round.past.legal, answer_is);
     who = All-append (IsOfPasses facts.seats) history (entry ∷ []) round.past.who
         (All-cons (IsOfPasses facts.seats) entry []
         (omega (arith, own, there_inside state.views old.number old there, round.fits.passes)) (All-nil (IsOfPasses facts.seats)));
     ordered = ordered;
-    only = λ from other here. round.so_far.only from other (generation_was round.fits.holds.chain replaces from other here);
-    first = λ from other here. round.so_far.first from other (generation_was round.fits.holds.chain replaces from other here);
-    no_op = λ from op here. round.so_far.no_op from op (op_was round.fits.holds.chain replaces from op here);
+    only = λ from other here. round.so_far.only from other (generation_was names from other here);
+    first = λ from other here. round.so_far.first from other (generation_was names from other here);
+    no_op = λ from op here. round.so_far.no_op from op (op_was names from op here);
   }

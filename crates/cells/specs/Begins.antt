@@ -1,15 +1,14 @@
 -- How a round begins: which words it may begin with, what never changes in it, and how its first
 -- table seat is cut into those of its passes.
-use Rattle.std.specs.Prelude.{◌≡◌, ℕ, ◌+◌, ◌-◌, ◌^◌, ◌≤◌, List, [], ◌∷◌, length, map}
+use Rattle.std.specs.Prelude.{◌≡◌, ℕ, ◌+◌, ◌-◌, ◌≤◌, List, [], ◌∷◌, length, map}
 use Rattle.std.specs.List.{range_with_len}
 use Rattle.std.specs.List.Sorted.{IsStrictlyIncreasing}
 use Rattle.atomic_table.specs.Table.{Me}
 use Rattle.atomic_table.specs.Seated.{TableId}
-use Rattle.step_core.specs.Content.{exponent_of}
 use Rattle.step_core.specs.Format.{next_of}
 use Rattle.step_core.specs.Limits.{max_keys, max_words}
 use Rattle.step_core.specs.Openings.{opening_of, opening_words, opening_facts}
-use Rattle.step_core.specs.Plain.{keys_before}
+use Rattle.step_core.specs.Plain.{all_live_keys}
 use Rattle.step_core.specs.Plans.{IsPlan}
 use Rattle.step_core.specs.Rising.{with_key}
 use Rattle.step_core.specs.States.{fresh_view}
@@ -26,7 +25,7 @@ rising_keys (key ∷ keys) = with_key key (rising_keys keys)
 
 -- the keys that an opening's rows have
 abbrev pub opening_keys : List ℕ → List ℕ
-opening_keys words = rising_keys (keys_before words (2 ^ exponent_of words))
+opening_keys words = rising_keys (all_live_keys words)
 
 -- what never changes in a round that begins with these words
 abbrev pub facts_from : ℕ → List ℕ → RoundFacts

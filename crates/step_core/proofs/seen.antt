@@ -4,4 +4,5 @@ pub mod Content
 pub mod Spots
 pub mod FrozenWord
 pub mod Held
+pub mod Predecessor
 pub mod Members

@@ -50,12 +50,17 @@ content_of words row key =
     let keys = λ (k : ℕ). list_any (λ y. nat_eq y k) (row_keys words row) in
     if is_decided words op then applied words op keys key else keys key
 
--- the word of the head's bucket of the spot or, where that is nil, of its predecessor's
-abbrev pub live_word : List ℕ → ℕ → ℕ
-live_word words spot =
+-- the generation where a key of the spot is looked for: the head or, where its bucket of the spot is
+-- nil, its predecessor
+abbrev pub live_generation : List ℕ → ℕ → ℕ
+live_generation words spot =
     if bucket_word words (head_of words) spot == 0
-    then bucket_word words (slice_index words (head_of words + 1)) spot
-    else bucket_word words (head_of words) spot
+    then slice_index words (head_of words + 1)
+    else head_of words
+
+-- the word of its bucket of the spot
+abbrev pub live_word : List ℕ → ℕ → ℕ
+live_word words spot = bucket_word words (live_generation words spot) spot
 
 -- the live row of a key
 abbrev pub live_row : List ℕ → ℕ → ℕ

@@ -1,26 +1,38 @@
--- Words with one generation whose rows have no operations.
-use Rattle.std.specs.Prelude.{◌≡◌, ℕ, zero, suc, ◌+◌, ◌^◌, ◌<◌, ◌≤◌, List, [], ◌∷◌, ◌++◌, length, slice_index, All}
+-- Words whose live rows have no operations, and what their keys are; one generation of such rows.
+use Rattle.std.specs.Prelude.{◌≡◌, ℕ, zero, suc, ◌+◌, ◌^◌, ◌<◌, ◌≤◌, max, ◌==◌, if◌then◌else◌, List, [], ◌∷◌, ◌++◌, length, slice_index, All}
 use Rattle.std.specs.List.Sorted.{IsStrictlyIncreasing}
 use Rattle.step_core.specs.Format.{head_of, next_of, base_of, Stands, mutable_word, row_address, row_words}
-use Rattle.step_core.specs.Content.{bucket_word, row_keys, InClass}
+use Rattle.step_core.specs.Buckets.{class_keys}
+use Rattle.step_core.specs.Content.{exponent_of, live_word, row_keys, InClass}
 use Rattle.step_core.specs.Limits.{max_exponent}
 use Rattle.step_core.specs.declared.format.TheConstants.{FIRST_BUCKET, FIRST_KEY}
 
--- the head has no predecessor, and no row in a bucket of it has an operation
-pub record HasPlainRows (words : List ℕ) : Type 0 where
-  pub predecessor : slice_index words (head_of words + 1) ≡ 0
-  pub plain : (spot : ℕ)
-      → slice_index words (row_address (bucket_word words (head_of words) spot) + 1) ≡ 0
+-- no live row has an operation
+abbrev pub HasPlainRows : List ℕ → Type 0
+HasPlainRows words = (spot : ℕ) → slice_index words (row_address (live_word words spot) + 1) ≡ 0
 
--- the row in the head's bucket
-abbrev pub bucket_row : List ℕ → ℕ → ℕ
-bucket_row words bucket = row_address (slice_index words (head_of words + FIRST_BUCKET + bucket))
+-- the greater exponent of the head and its predecessor, if it has one: the buckets of both are unions
+-- of its classes
+abbrev pub finest_exponent : List ℕ → ℕ
+finest_exponent words =
+    let predecessor = slice_index words (head_of words + 1) in
+    if predecessor == 0 then exponent_of words
+    else max (exponent_of words) (slice_index words predecessor)
 
--- the keys of the rows in the head's first buckets, one row behind the other
+-- the keys of one of these classes in its live row
+abbrev pub live_class_keys : List ℕ → ℕ → List ℕ
+live_class_keys words class =
+    class_keys (finest_exponent words) class
+    (row_keys words (row_address (live_word words class)))
+
+-- the keys of the first classes, one class behind the other
 unfoldable pub keys_before : List ℕ → ℕ → List ℕ
 keys_before words zero = []
-keys_before words (suc bucket) =
-    keys_before words bucket ++ row_keys words (bucket_row words bucket)
+keys_before words (suc class) = keys_before words class ++ live_class_keys words class
+
+-- the keys of all live rows
+abbrev pub all_live_keys : List ℕ → List ℕ
+all_live_keys words = keys_before words (2 ^ finest_exponent words)
 
 -- one generation, and for each of its buckets a row of keys without an operation
 pub record PlainTable : Type 0 where

@@ -6,10 +6,10 @@ use Rattle.std.specs.FinSet as set
 use Rattle.std.proofs.lemmas.List.Sorted.{IsPermutation-refl}
 use Rattle.set_model.specs.Keys.{keys_set, is_in}
 use Rattle.set_model.proofs.LawRising.{rising_list_is_one}
-use Rattle.step_core.specs.Content.{exponent_of, HasMembers}
+use Rattle.step_core.specs.Content.{HasMembers}
 use Rattle.step_core.specs.Fits.{IsWellFormed}
 use Rattle.step_core.specs.Openings.{opening_of, opening_words, opening_facts}
-use Rattle.step_core.specs.Plain.{keys_before}
+use Rattle.step_core.specs.Plain.{all_live_keys}
 use Rattle.step_core.specs.declared.layout.Layout.{Layout}
 use Rattle.step_core.specs.declared.layout.Plan.{Plan}
 use Rattle.step_core.proofs.lists.Above.{Rises, increasing}
@@ -56,7 +56,7 @@ module _ (seats cap : ℕ) (keys : List ℕ) (rising : IsStrictlyIncreasing keys
 
   -- the keys that its rows have
   abbrev found : List ℕ
-  found = keys_before words (2 ^ exponent_of words)
+  found = all_live_keys words
 
   -- they are the members of its set
   opening_finds : HasMembers words (keys_set found)

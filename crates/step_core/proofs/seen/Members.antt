@@ -1,23 +1,23 @@
 -- The members that the words show are those that the published blocks and their cells hold.
-use Rattle.std.proofs.Common.{◌≡◌, ◌≢◌, ℕ, ◌+◌, ◌==◌, ◌||◌, ◌&&◌, not, Bool, true, false, cond, if◌then◌else◌, List, Option, refl, sym, ap, ◌∙◌, subst, arith, add-zero, ne_eqb, inl, inr}
+use Rattle.std.proofs.Common.{◌≡◌, ◌≢◌, ℕ, ◌+◌, ◌==◌, ◌||◌, ◌&&◌, not, Bool, true, false, cond, if◌then◌else◌, List, Option, refl, sym, ap, ◌∙◌, arith, add-zero, ne_eqb}
 use native.Mathlib.Decide.{ℕ_discrete}
 use Rattle.std.specs.Prelude.{slice_index}
 use Rattle.set_model.specs.Call.{members_after_call}
 use Rattle.set_model.specs.Keys.{is_in}
 use Rattle.set_model.specs.declared.call.Call.TheVariants.{Insert, Remove}
-use Rattle.step_core.specs.Content.{bucket_of, spot_of, bucket_word, row_keys, is_decided, applied, content_of, live_word, is_member}
-use Rattle.step_core.specs.Fits.{HoldsBlocks, predecessor_of}
-use Rattle.step_core.specs.Format.{IsNil, head_of, kind_of, row_address}
-use Rattle.step_core.specs.Members.{bucket_cell, live_cell, call_of, keys_with_op, row_content, is_held}
+use Rattle.step_core.specs.Content.{spot_of, row_keys, is_decided, applied, content_of, is_member}
+use Rattle.step_core.specs.Fits.{HoldsBlocks}
+use Rattle.step_core.specs.Format.{kind_of, row_address}
+use Rattle.step_core.specs.Members.{live_cell, call_of, keys_with_op, row_content, is_held}
 use Rattle.step_core.specs.Plain.{HasPlainRows}
-use Rattle.step_core.specs.States.{RoundState, IsGeneration, IsRow, IsOp}
+use Rattle.step_core.specs.States.{RoundState, IsRow, IsOp}
 use Rattle.step_core.specs.declared.published.Published.{Published}
-use Rattle.step_core.specs.declared.published.Published.TheVariants.{Generation, Row, Op}
-use Rattle.step_core.specs.declared.published.GenerationBlock.{GenerationBlock}
+use Rattle.step_core.specs.declared.published.Published.TheVariants.{Row, Op}
 use Rattle.step_core.specs.declared.published.OpBlock.{OpBlock}
 use Rattle.step_core.specs.declared.published.RowBlock.{RowBlock}
-use Rattle.step_core.proofs.seen.Held.{bucket_cell-there, live_cell-head, live_cell-predecessor, row_content-plain, is_held-row}
-use Rattle.step_core.proofs.seen.Shown.{block_shown, bucket_word-cell}
+use Rattle.step_core.proofs.seen.Held.{row_content-plain, is_held-row}
+use Rattle.step_core.proofs.seen.Predecessor.{is_live}
+use Rattle.step_core.proofs.seen.Shown.{block_shown}
 use Rattle.step_core.proofs.seen.Content.{row_keys-written}
 
 -- what an operation's words apply to keys is what its call does to them
@@ -87,111 +87,25 @@ module _ {seats : ℕ} {words : List ℕ} {state : RoundState} (holds : HoldsBlo
       | no some_op ↦ op_content some_op
     ]
 
-  -- a published generation's bucket word is its cell
-  cell_same : (at spot : ℕ) (generation : GenerationBlock) → IsGeneration state.blocks at generation
-      → bucket_word words at spot ≡ bucket_cell state.blocks state.cells at spot
-  cell_same at spot generation here =
-      bucket_word-cell holds at generation spot here
-      ∙ sym (bucket_cell-there state.head state.blocks state.cells at spot generation here)
-
-  -- the head, by words and as it is published
-  head_same : head_of words ≡ state.head
-  head_same = holds.laid.fixed_words.head_shown
-
-  abbrev first : GenerationBlock
-  first = holds.chain.head_there.0
-
-  first_there : IsGeneration state.blocks state.head first
-  first_there = holds.chain.head_there.1
-
-  -- the live word of a spot is its live cell, and names a row
-  record IsLive (spot : ℕ) : Type 0 where
-    pub same : live_word words spot ≡ live_cell state.head state.blocks state.cells spot
-    pub row : RowBlock
-    pub here : IsRow state.blocks (row_address (live_cell state.head state.blocks state.cells spot)) row
-
-  module _ (spot : ℕ) where
-    head_word : bucket_word words (head_of words) spot ≡ bucket_cell state.blocks state.cells state.head spot
-    head_word = ap (λ (at : ℕ). bucket_word words at spot) head_same ∙ cell_same state.head spot first first_there
-
-    -- where the head's bucket isn't nil it is the head's,
-    in_head : ¬ IsNil (bucket_cell state.blocks state.cells state.head spot) → IsLive spot
-    in_head filled =
-        let live = live_cell-head state.head state.blocks state.cells spot filled in
-        let cell = bucket_cell-there state.head state.blocks state.cells state.head spot first first_there in
-        let home = holds.chain.names state.head first spot first_there (subst (λ (w : ℕ). ¬ IsNil w) cell filled) in
-        let test : (bucket_word words (head_of words) spot == 0) ≡ false =
-        ne_eqb (bucket_word words (head_of words) spot) 0 (λ nil. filled (sym head_word ∙ nil)) in
-        record {
-          same = ap (λ (b : Bool). if b then bucket_word words (slice_index words (head_of words + 1)) spot
-              else bucket_word words (head_of words) spot) test ∙ head_word ∙ sym live;
-          row = home.row;
-          here = subst (λ (w : ℕ). IsRow state.blocks (row_address w) home.row) (sym (live ∙ cell)) home.here;
-        }
-
-    -- and else the predecessor's
-    in_predecessor : IsNil (bucket_cell state.blocks state.cells state.head spot) → IsLive spot
-    in_predecessor nil =
-        let live = live_cell-predecessor state.head state.blocks state.cells spot nil in
-        let cell = bucket_cell-there state.head state.blocks state.cells state.head spot first first_there in
-        let before : first.predecessor ≢ 0 = λ none. holds.chain.filled state.head first spot first_there (inr none) (sym cell ∙ nil) in
-        let other = holds.chain.follows state.head first first_there before in
-        let there = other.there in
-        let named : predecessor_of (state.blocks state.head) ≡ first.predecessor = ap predecessor_of first_there in
-        let other_cell = bucket_cell-there state.head state.blocks state.cells first.predecessor spot other.other there in
-        let home = holds.chain.names first.predecessor other.other spot there
-        (holds.chain.filled first.predecessor other.other spot there (inl other.not_head)) in
-        let shown = block_shown holds state.head (Generation first) first_there in
-        let word : slice_index words (head_of words + 1) ≡ first.predecessor =
-        ap (λ (at : ℕ). slice_index words (at + 1)) head_same ∙ shown.sealed 1 (omega arith) in
-        let test : (bucket_word words (head_of words) spot == 0) ≡ true =
-        ap (λ (w : ℕ). w == 0) (head_word ∙ nil) in
-        let live_there : live_cell state.head state.blocks state.cells spot ≡ bucket_cell state.blocks state.cells first.predecessor spot =
-        live ∙ ap (λ (at : ℕ). bucket_cell state.blocks state.cells at spot) named in
-        record {
-          same = ap (λ (b : Bool). if b then bucket_word words (slice_index words (head_of words + 1)) spot
-              else bucket_word words (head_of words) spot) test
-              ∙ ap (λ (at : ℕ). bucket_word words at spot) word
-              ∙ cell_same first.predecessor spot other.other there
-              ∙ sym live_there;
-          row = home.row;
-          here = subst (λ (w : ℕ). IsRow state.blocks (row_address w) home.row) (sym (live_there ∙ other_cell)) home.here;
-        }
-
-    is_live : IsLive spot
-    is_live = elim (ℕ_discrete (bucket_cell state.blocks state.cells state.head spot) 0) [
-      | yes nil ↦ in_predecessor nil
-      | no filled ↦ in_head filled
-    ]
-
   -- A key is a member of the words exactly where the blocks hold it.
   pub is_member-held : (key : ℕ) → is_member words key ≡ is_held state.head state.blocks state.cells key
   is_member-held key =
-      let live = is_live (spot_of key) in
-      let address : ℕ = row_address (live_cell state.head state.blocks state.cells (spot_of key)) in
+      let live = is_live holds (spot_of key) in
+      let word : ℕ = live_cell state.head state.blocks state.cells (spot_of key) in
       ap (λ (w : ℕ). content_of words (row_address w) key) live.same
-      ∙ content_same address live.row live.here key
-      ∙ sym (is_held-row state.head state.blocks state.cells key (live_cell state.head state.blocks state.cells (spot_of key)) live.row refl live.here)
+      ∙ content_same (row_address word) live.home.row live.home.here key
+      ∙ sym (is_held-row state.head state.blocks state.cells key word live.home.row refl live.home.here)
 
-  -- Where no generation has a predecessor and no operation is published, the words have plain rows.
-  pub plain_rows : ((at : ℕ) (generation : GenerationBlock) → IsGeneration state.blocks at generation → generation.predecessor ≡ 0)
-      → ((at : ℕ) (op : OpBlock) → IsOp state.blocks at op → ⊥) → HasPlainRows words
-  plain_rows no_predecessor no_op = record {
-    predecessor = ap (λ (at : ℕ). slice_index words (at + 1)) head_same
-        ∙ (block_shown holds state.head (Generation first) first_there).sealed 1 (omega arith)
-        ∙ no_predecessor state.head first first_there;
-    plain = λ spot.
-        let filled = holds.chain.filled state.head first spot first_there (inr (no_predecessor state.head first first_there)) in
-        let home = holds.chain.names state.head first spot first_there filled in
-        let cell = bucket_cell-there state.head state.blocks state.cells state.head spot first first_there in
-        let named : bucket_word words (head_of words) spot ≡ state.cells state.head (bucket_of first.exponent spot) =
-        head_word spot ∙ cell in
-        ap (λ (w : ℕ). slice_index words (row_address w + 1)) named
-        ∙ (block_shown holds (row_address (state.cells state.head (bucket_of first.exponent spot))) (Row home.row) home.here).sealed 1 (omega arith)
-        ∙ elim (ℕ_discrete home.row.op 0) [
-          | yes none ↦ none
-          | no some_op ↦
-              let op = (holds.homes (row_address (state.cells state.head (bucket_of first.exponent spot))) home.row home.here).op some_op in
-              absurd (no_op home.row.op op.op op.there)
-        ];
-  }
+  -- Where no operation is published, no live row has one.
+  pub plain_rows : ((at : ℕ) (op : OpBlock) → IsOp state.blocks at op → ⊥) → HasPlainRows words
+  plain_rows no_op spot =
+      let live = is_live holds spot in
+      let address : ℕ = row_address (live_cell state.head state.blocks state.cells spot) in
+      ap (λ (w : ℕ). slice_index words (row_address w + 1)) live.same
+      ∙ (block_shown holds address (Row live.home.row) live.home.here).sealed 1 (omega arith)
+      ∙ elim (ℕ_discrete live.home.row.op 0) [
+        | yes none ↦ none
+        | no some_op ↦
+            let op = (holds.homes address live.home.row live.home.here).op some_op in
+            absurd (no_op live.home.row.op op.op op.there)
+      ]

@@ -1,21 +1,21 @@
 -- An opening is a table of plain rows, and its members are its keys.
-use Rattle.std.proofs.Common.{◌≡◌, ℕ, zero, suc, ◌+◌, ◌-◌, ◌^◌, ◌<◌, ◌≤◌, nat_eq, Bool, true, false, cond, ◌||◌, List, [], ◌∷◌, ◌++◌, length, slice_index, replicate, refl, sym, ap, ◌∙◌, subst, arith, add-one, append_assoc, length-append, All, Result, Ok, Err, IfOk, inl, inr}
-use Rattle.std.specs.List.{list_any, filter}
+use Rattle.std.proofs.Common.{◌≡◌, ℕ, zero, suc, ◌+◌, ◌-◌, ◌^◌, ◌<◌, ◌≤◌, nat_eq, Bool, true, false, cond, ◌||◌, List, [], ◌∷◌, ◌++◌, length, slice_index, replicate, refl, sym, ap, ◌∙◌, subst, arith, add-one, append_assoc, length-append, Result, Ok, Err, IfOk, inl, inr}
+use Rattle.std.specs.List.{list_any}
 use Rattle.std.specs.List.Sorted.{IsStrictlyIncreasing}
 use Rattle.std.specs.FinSet as set
 use Rattle.std.proofs.lemmas.Bool.{cases_Bool, cases_lt}
 use Rattle.std.proofs.lemmas.Bool.Decides.{nat_tests, Decides-eqb}
 use Rattle.std.proofs.lemmas.List.{append-nil, get_or-append-add, get_or_append_left}
-use Rattle.std.proofs.lemmas.List.Elements.{All-weaker, filter_passes}
 use Rattle.std.proofs.lemmas.List.FromFn.{get_or-map-range_with_len}
 use Rattle.std.proofs.lemmas.List.Kept.{IsStrictlyIncreasing-filter}
 use Rattle.set_model.specs.Keys.{keys_set}
 use Rattle.step_core.specs.Buckets.{key_bucket, class_keys}
-use Rattle.step_core.specs.Content.{InClass, HasMembers}
+use Rattle.step_core.specs.Content.{HasMembers}
 use Rattle.step_core.specs.Format.{base_of, Stands, mutable_word, row_words}
 use Rattle.step_core.specs.Openings.{opening_words, opening_of, exponent_for, fixed_words, generation_words, rows_of, row_start}
 use Rattle.step_core.specs.Plain.{PlainTable, IsPlainTable}
 use Rattle.step_core.specs.declared.format.TheConstants.{FIRST_ANNOUNCED, FIRST_BUCKET, FIRST_KEY}
+use Rattle.step_core.proofs.tables.Buckets.{class_keys-class}
 use Rattle.step_core.proofs.tables.OneExponent.{exponent_for-least, exponent_for-small}
 use Rattle.step_core.proofs.tables.Rows.{rows_of-more, length-rows_of-all}
 use Rattle.step_core.proofs.tables.Written.{length-fixed_words, length-generation_words, opening_front, length-opening_front, length-opening_of}
@@ -52,13 +52,6 @@ rows_of-split exponent keys bucket (suc count) lt =
           (class_keys exponent b keys) ++ rest))) same
           ([], more ∙ ap (λ (tail : List ℕ). rows_of exponent keys count ++ tail) (sym (append-nil last)))
     ]
-
--- the keys of a class are of it
-class_keys-class : (exponent bucket : ℕ) (keys : List ℕ) → All (InClass exponent bucket) (class_keys exponent bucket keys)
-class_keys-class exponent bucket keys =
-    let here : ℕ → Bool = λ key. nat_eq (key_bucket exponent key) bucket in
-    All-weaker (λ key. here key ≡ true) (InClass exponent bucket) (λ key passes. (Decides-eqb (key_bucket exponent key) bucket).0 passes)
-    (filter here keys) (filter_passes here keys)
 
 or_same : (a b c : Bool) → b ≡ c → (a || b) ≡ (a || c)
 or_same a b c e = ap (λ (x : Bool). a || x) e

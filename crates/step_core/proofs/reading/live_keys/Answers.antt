@@ -12,6 +12,6 @@ returns-clause-members c =
 pub returns-clause-rising : goal.returns-clause-rising
 returns-clause-rising c =
     let keys = c.sort_unstable.new.self.items in
-    collected_rising c.args.words.now c.requires.well_formed c.requires.plain keys
+    collected_rising c.args.words.now c.requires.well_formed keys
     (subst (λ (list : List ℕ). IsPermutation list keys) c.in_ok-keys.ensures c.sort_unstable.ensures.permutation)
     c.sort_unstable.ensures.sorted

@@ -218,6 +218,13 @@ FindsFilled view place word = (at bucket : ℕ) (generation : GenerationBlock)
     → IsBucketWord view place at bucket generation
     → (is_among view.filled at bucket ≡ true) ⊎ (generation.predecessor ≡ 0) → ¬ IsNil word
 
+-- a bucket of a generation that another is known to follow isn't nil
+abbrev pub FindsFollowed : PassView → ℕ → ℕ → Type 0
+FindsFollowed view place word = (at bucket : ℕ) (generation : GenerationBlock)
+    → IsBucketWord view place at bucket generation
+    → (later : ℕ) (newer : GenerationBlock) → KnowsGeneration view later newer
+    → newer.predecessor ≡ at → ¬ IsNil word
+
 -- a mutable row without an operation has the keys that the set after the history has in its bucket
 abbrev pub AgreesWithHistory : PassView → ℕ → List Entry → RowBlock → Type 0
 AgreesWithHistory view word history row = ¬ IsNil word → IsMutable word → row.op ≡ 0
@@ -240,6 +247,7 @@ pub record LoadsBucket (place : ℕ) (old : PassView) (word : ℕ) (new : PassVi
   pub grows : IsPrefix old.front history
   pub home : NamesOwnRow old place word row
   pub filled : FindsFilled old place word
+  pub followed : FindsFollowed old place word
   pub marks : List Mark
   pub agrees : AgreesWithHistory old word history row
   pub marked : MarksRow place old word new

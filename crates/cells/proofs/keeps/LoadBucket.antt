@@ -33,7 +33,7 @@ use Rattle.cells.specs.Sound.{IsSound}
 use Rattle.cells.specs.Steps.{LoadsBucket, LoadsKnownBucket, AgreesWithHistory, NamesOwnRow, is_nil, is_frozen, filled_bucket, nil_bucket, view_after_load_bucket}
 use Rattle.cells.specs.SoFar.{IsGivenBlock, KnowsGiven}
 use Rattle.cells.proofs.laws.BucketLoads.{is_frozen-mutable, is_nil-nil, is_nil-other}
-use Rattle.cells.proofs.laws.FoundBucket.{published, word_is, row_there, finds_filled, names_row, row_agrees, is_untouched-cases}
+use Rattle.cells.proofs.laws.FoundBucket.{published, word_is, row_there, finds_filled, finds_followed, names_row, row_agrees, is_untouched-cases}
 use Rattle.cells.proofs.laws.Given.{given_published}
 use Rattle.cells.proofs.laws.Known.{generation_at-known}
 use Rattle.cells.proofs.laws.Lone.{same_ledger, table_stays}
@@ -222,6 +222,8 @@ module _ {facts : RoundFacts} {words : List ℕ} {state : RoundState} {history :
       grows = (round.past.begun old.number old there).front;
       home = home;
       filled = λ other other_bucket g too reason. finds_filled round old there place other other_bucket g too reason;
+      followed = λ other other_bucket g too later newer known behind.
+          finds_followed round old there place other other_bucket g too later newer known behind;
       marks = marks.marks;
       agrees = agrees;
       marked = marks.marked;

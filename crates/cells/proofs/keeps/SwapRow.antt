@@ -22,6 +22,7 @@ use Rattle.step_core.specs.declared.views.Known.{Known}
 use Rattle.step_core.specs.declared.views.PassView.{PassView}
 use Rattle.step_core.specs.declared.views.RoundFacts.{RoundFacts}
 use Rattle.step_core.proofs.changes.Named.{stays, filled_stays, result_stays, cell_cases}
+use Rattle.step_core.proofs.changes.Held.{content_same, ops_keep}
 use Rattle.step_core.proofs.lists.Histories.{keys_after-push}
 use Rattle.cells.specs.Exchanges.{swap_change, entry_by, MaySwapRow, SwapsRow}
 use Rattle.cells.specs.Invariant.{HoldsRound, IsFilled}
@@ -33,7 +34,7 @@ use Rattle.cells.specs.Past.{decided_entry, entries_by, flying_entry}
 use Rattle.cells.proofs.keeps.LoseSwap.{lost_moved}
 use Rattle.cells.proofs.laws.Entries.{entries_by-own, entries_by-other}
 use Rattle.cells.proofs.laws.Given.{given_published}
-use Rattle.cells.proofs.laws.Hindsight.{KeepsStanding, content_stays, hindsight_keeps}
+use Rattle.cells.proofs.laws.Hindsight.{KeepsStanding, hindsight_keeps}
 use Rattle.cells.proofs.laws.Lone.{generation_in-stays, is_untouched-same, table_stays}
 use Rattle.cells.proofs.laws.LoneRound.{lone_front}
 use Rattle.cells.proofs.parts.PutState.{Sees, sum_by-put, there_inside, each_sees, put_state}
@@ -86,23 +87,17 @@ module _ {facts : RoundFacts} {words : List ℕ} {state : RoundState} {history :
 
   -- what stood has stood
   standing : KeepsStanding facts.keys state.blocks state.cells history (after s).blocks (after s).cells (new_history s)
-  standing =
-      let chain = s.round.fits.holds.chain in
-      record {
-        rows = λ from other here. stays chain (replaces s) from (Row other) here;
-        generations = λ from other here. stays chain (replaces s) from (Generation other) here;
-        contents = λ from other key here. content_stays state.blocks (after s).blocks state.cells (after s).cells other key (λ some_op.
-            let op = (s.round.fits.holds.homes from other here).op some_op in (
-              stays chain (replaces s) other.op (Op op.op) op.there ∙ sym op.there,
-              result_stays chain (replaces s) other.op op.op op.there,
-            ));
-        grows = (entry s ∷ [], refl);
-        frozen = λ from generation bucket here within odd. ⊎_elim
-            (λ (touched : (from ≡ s.may.turn.head) × (bucket ≡ s.may.bucket) × ((after s).cells from bucket ≡ mutable_word s.at)).
-            let is = touched.2 in absurd (omega arith))
-            (λ (kept : (after s).cells from bucket ≡ state.cells from bucket). inl kept)
-            (cell_cases chain (replaces s) from bucket);
-      }
+  standing = record {
+    rows = λ from other here. stays (names s) from (Row other) here;
+    generations = λ from other here. stays (names s) from (Generation other) here;
+    contents = λ from other key here. content_same (ops_keep (names s)) other key;
+    grows = (entry s ∷ [], refl);
+    frozen = λ from generation bucket here within odd. ⊎_elim
+        (λ (touched : (from ≡ s.may.turn.head) × (bucket ≡ s.may.bucket) × ((after s).cells from bucket ≡ mutable_word s.at)).
+        let is = touched.2 in absurd (omega arith))
+        (λ (kept : (after s).cells from bucket ≡ state.cells from bucket). inl kept)
+        (cell_cases (names s) from bucket);
+  }
 
   -- what the views owe before and after
   abbrev Before : ℕ → PassView → Type 0

@@ -1,14 +1,12 @@
 -- What stood has stood for ever: rows that stay published keep what they have, and the history only grows.
-use Rattle.std.proofs.Common.{◌≡◌, ◌≢◌, ◌⊎◌, ⊎_elim, ℕ, ◌<◌, ◌^◌, List, nat_eq, cond, length, Option, sym, ◌∙◌, subst, arith}
-use native.Mathlib.Decide.{ℕ_discrete}
+use Rattle.std.proofs.Common.{◌≡◌, ◌⊎◌, ⊎_elim, ℕ, ◌<◌, ◌^◌, List, length, Option, sym, ◌∙◌, subst, arith}
 use mathlib.Core.List.{IsPrefix}
 use base.Growing.{prefix_anti, prefix_trans}
 use Rattle.std.proofs.lemmas.List.Elements.{All-weaker}
-use Rattle.set_model.specs.Keys.{is_in}
 use Rattle.set_model.specs.declared.entry.Entry.{Entry}
 use Rattle.step_core.specs.Content.{InClass}
 use Rattle.step_core.specs.Format.{IsFrozen, row_address}
-use Rattle.step_core.specs.Members.{keys_with_op, row_content}
+use Rattle.step_core.specs.Members.{row_content}
 use Rattle.step_core.specs.States.{IsGeneration, IsRow}
 use Rattle.step_core.specs.declared.published.Published.{Published}
 use Rattle.step_core.specs.declared.published.GenerationBlock.{GenerationBlock}
@@ -17,7 +15,6 @@ use Rattle.step_core.specs.declared.views.HeadLoad.{HeadLoad}
 use Rattle.step_core.specs.declared.views.Mark.{Mark}
 use Rattle.step_core.specs.declared.views.NilBucket.{NilBucket}
 use Rattle.step_core.specs.declared.views.PassView.{PassView}
-use Rattle.step_core.proofs.seen.Held.{row_content-plain}
 use Rattle.cells.specs.Hindsight.{InMark, bucket_mark, shared_mark, HasStood, StoodInHead, StoodInSources, HasHindsight}
 use Rattle.cells.proofs.laws.Fronts.{shorter_begins}
 
@@ -31,19 +28,6 @@ pub same_fronts : (front other history : List Entry) → IsPrefix front history 
 same_fronts front other history first second long =
     prefix_anti front other (shorter_begins front other history first second (omega (arith, long)))
     (shorter_begins other front history second first (omega (arith, long)))
-
--- a row keeps its content where its operation and that one's result stay
-pub content_stays : (blocks new_blocks : ℕ → Option Published) (cells new_cells : ℕ → ℕ → ℕ) (row : RowBlock) (key : ℕ)
-    → (row.op ≢ 0 → (new_blocks row.op ≡ blocks row.op) × (new_cells row.op 0 ≡ cells row.op 0))
-    → row_content new_blocks new_cells row key ≡ row_content blocks cells row key
-unfolding row_content
-content_stays blocks new_blocks cells new_cells row key op_stays = elim (ℕ_discrete row.op 0) [
-  | yes none ↦
-      row_content-plain 0 new_blocks new_cells row key none ∙ sym (row_content-plain 0 blocks cells row key none)
-  | no some_op ↦
-      let same = op_stays some_op in
-      λ i. cond (nat_eq row.op 0) (is_in row.keys) (keys_with_op (same.0 i) (same.1 i) (is_in row.keys)) key
-]
 
 module _ (keys : List ℕ) (blocks : ℕ → Option Published) (cells : ℕ → ℕ → ℕ) (history : List Entry) where
   -- what stood for the keys of a bucket stood for those that another shares

@@ -3,6 +3,7 @@ pub mod Lone
 pub mod LoneRound
 pub mod Drawing
 pub mod Sound
+pub mod Counted
 pub mod Seats
 pub mod Given
 pub mod Entries

@@ -10,13 +10,27 @@ use Rattle.step_core.specs.declared.views.Known.{Known}
 use Rattle.step_core.specs.declared.views.OpenTurn.{OpenTurn}
 use Rattle.step_core.specs.declared.views.PassView.{PassView}
 use Rattle.cells.specs.Exchanges.{load_of}
-use Rattle.cells.specs.Known.{known_block, IsBucketWord, row_at}
+use Rattle.cells.specs.Frames.{after_reads}
+use Rattle.cells.specs.Known.{known_block, IsBucketWord, KnowsGeneration, row_at}
 use Rattle.cells.specs.Marks.{IsMarkedFor}
+use Rattle.cells.specs.Steps.{LoadsBucket}
 use Rattle.fset.specs.Content.{Agrees}
 use Rattle.fset.specs.Frames.{Grows, KeepsOwn, latest_row}
 use Rattle.fset.specs.Seen.{IsSeen}
 use Rattle.fset.specs.declared.seeking.LoadedBucket.{LoadedBucket}
 use Rattle.fset.specs.declared.seeking.Sought.{Sought}
+
+-- the address is that of a known generation
+abbrev pub KnowsGenerationAt : PassView → ℕ → Type 0
+KnowsGenerationAt view at = (generation : GenerationBlock) × KnowsGeneration view at generation
+
+-- the exponent of a known generation was loaded, and then the bucket of the key in it
+pub record LoadsBucketOf (at key : ℕ) (old : PassView) (bucket : LoadedBucket) (new : PassView)
+    : Type 0 where
+  pub generation : GenerationBlock
+  pub is_word : IsBucketWord (after_reads 1 old) bucket.place at
+      (key_bucket generation.exponent key) generation
+  pub loads : LoadsBucket bucket.place (after_reads 1 old) bucket.word new
 
 -- The open turn loaded the bucket of the key, in its head, and found this word of a mutable row.
 -- That stays so until the turn is closed.

@@ -1,5 +1,7 @@
 pub mod LoadHead
 pub mod LoadSealed
+pub mod MarkBucket
+pub mod MarkSealed
 pub mod LoadBucket
 pub mod Draw
 pub mod Write

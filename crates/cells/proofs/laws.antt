@@ -3,6 +3,7 @@ pub mod Lone
 pub mod LoneRound
 pub mod Drawing
 pub mod Sound
+pub mod Counted
 pub mod Seats
 pub mod Given
 pub mod Entries
@@ -22,6 +23,8 @@ pub mod AfterDraws
 pub mod WritesAddUp
 pub mod Paid
 pub mod FoundBucket
+pub mod Hindsight
+pub mod Marking
 pub mod Facts
 pub mod Opens
 pub mod Cutting

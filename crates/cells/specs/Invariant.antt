@@ -9,6 +9,7 @@ use Rattle.step_core.specs.declared.published.RowBlock.{RowBlock}
 use Rattle.step_core.specs.declared.views.FilledBucket.{FilledBucket}
 use Rattle.step_core.specs.declared.views.PassView.{PassView}
 use Rattle.step_core.specs.declared.views.RoundFacts.{RoundFacts}
+use Rattle.cells.specs.Hindsight.{HasHindsight}
 use Rattle.cells.specs.Lone.{KnowsAlone}
 use Rattle.cells.specs.Past.{HoldsHistory, HasGivenKeys}
 use Rattle.cells.specs.Paid.{ArePaid}
@@ -37,6 +38,8 @@ pub record HoldsRound (facts : RoundFacts) (words : List ℕ) (state : RoundStat
   pub members : HoldsMembers facts.keys state.head state.blocks state.cells history
   pub paid : ArePaid state.head state.cells state.views
   pub filled : Each (KnowsFilled state.cells) state.views
+  -- what each pass noted of rows that may have been replaced is so
+  pub hindsight : Each (HasHindsight facts.keys state.blocks state.cells history) state.views
   -- a pass that is the only one knows the whole table
   pub alone : Each (KnowsAlone facts state.head state.blocks state.cells) state.views
   pub so_far : HasOneGeneration facts.keys state.head state.blocks state.views

@@ -1,4 +1,6 @@
 pub mod Known
+pub mod Hindsight
+pub mod Marks
 pub mod Past
 pub mod Paid
 pub mod Invariant

@@ -1,6 +1,6 @@
 -- What holds so far, while a round has one generation and no operation. Each field goes again with
--- the steps that end it: a new head, an announced operation, a mark.
-use Rattle.std.specs.Prelude.{◌≡◌, ℕ, List, [], All, Option}
+-- the steps that end it: a new head, an announced operation.
+use Rattle.std.specs.Prelude.{◌≡◌, ℕ, List, All, Option}
 use Rattle.set_model.specs.declared.entry.Entry.{Entry}
 use Rattle.step_core.specs.Format.{IsNil, IsMutable}
 use Rattle.step_core.specs.States.{Each, IsGeneration, IsOp}
@@ -13,10 +13,6 @@ use Rattle.step_core.specs.declared.views.Known.{Known}
 use Rattle.step_core.specs.declared.views.PassView.{PassView}
 use Rattle.cells.specs.Known.{KnowsRow, KnowsGeneration}
 use Rattle.cells.specs.Past.{HasGivenKeys}
-
--- no mark is in the view
-abbrev pub HasNoMark : ℕ → PassView → Type 0
-HasNoMark pass view = view.marks ≡ []
 
 -- a known block, if it is a row, has opening keys and such as this front inserts
 abbrev pub IsGivenBlock : List ℕ → List Entry → Known → Type 0
@@ -33,7 +29,6 @@ pub record HasOneGeneration (keys : List ℕ) (head : ℕ) (blocks : ℕ → Opt
   pub first : (at : ℕ) (generation : GenerationBlock) → IsGeneration blocks at generation
       → generation.predecessor ≡ 0
   pub no_op : (at : ℕ) (op : OpBlock) → IsOp blocks at op → ⊥
-  pub no_mark : Each HasNoMark views
   pub given : Each (KnowsGiven keys) views
 
 -- of a view: so it is with the generations and rows that it knows
@@ -41,7 +36,6 @@ pub record KnowsOneGeneration (view : PassView) : Type 0 where
   pub first : (at : ℕ) (generation : GenerationBlock) → KnowsGeneration view at generation
       → generation.predecessor ≡ 0
   pub no_op : (at : ℕ) (row : RowBlock) → KnowsRow view at row → row.op ≡ 0
-  pub no_mark : view.marks ≡ []
   pub given : (at : ℕ) (row : RowBlock) → KnowsRow view at row
       → HasGivenKeys view.facts.keys view.front row
 

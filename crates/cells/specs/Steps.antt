@@ -1,12 +1,12 @@
 -- What each kind of step tells its pass: the view after it, as a function of the view before.
-use Rattle.std.specs.Prelude.{◌≡◌, ◌≢◌, ℕ, ◌+◌, ◌%◌, ◌<◌, ◌≤◌, ◌==◌, ◌&&◌, ◌⊎◌, Bool, true, false, nat_eq, if◌then◌else◌, List, [], ◌∷◌, ◌++◌, length, All, take, slice_index, Option, Some, None}
+use Rattle.std.specs.Prelude.{◌≡◌, ◌≢◌, ℕ, ◌+◌, ◌%◌, ◌<◌, ◌≤◌, ◌==◌, ◌&&◌, ◌⊎◌, Bool, true, false, nat_eq, if◌then◌else◌, List, [], ◌∷◌, ◌++◌, length, take, slice_index, Option, Some, None}
 use mathlib.Core.List.{IsPrefix}
 use Rattle.set_model.specs.declared.entry.Entry.{Entry}
 use Rattle.arena.specs.Hands.{words_at, drawn_block, written}
 use Rattle.set_model.specs.History.{members_after}
 use Rattle.set_model.specs.Keys.{is_in}
 use Rattle.step_core.specs.Content.{InClass}
-use Rattle.step_core.specs.Format.{IsNil, IsMutable, row_address, sealed_words}
+use Rattle.step_core.specs.Format.{IsNil, IsMutable, IsFrozen, row_address, sealed_words}
 use Rattle.step_core.specs.declared.published.Published.{Published}
 use Rattle.step_core.specs.declared.published.Published.TheVariants.{Generation, Row, Op}
 use Rattle.step_core.specs.declared.published.GenerationBlock.{GenerationBlock}
@@ -15,11 +15,14 @@ use Rattle.step_core.specs.declared.published.OpBlock.{OpBlock}
 use Rattle.step_core.specs.declared.views.Known.{Known}
 use Rattle.step_core.specs.declared.views.BucketLoad.{BucketLoad}
 use Rattle.step_core.specs.declared.views.FilledBucket.{FilledBucket}
+use Rattle.step_core.specs.declared.views.Mark.{Mark}
+use Rattle.step_core.specs.declared.views.NilBucket.{NilBucket}
 use Rattle.step_core.specs.declared.views.OpenTurn.{OpenTurn}
 use Rattle.step_core.specs.declared.views.PassView.{PassView}
-use Rattle.cells.specs.Known.{known_block, link_of, generation_at, bucket_at, IsSealedWord, IsBucketWord}
+use Rattle.cells.specs.Known.{known_block, link_of, generation_at, bucket_at, IsSealedWord, IsBucketWord, KnowsGeneration}
 use Rattle.cells.specs.Lone.{head_at, head_generation, is_among, is_untouched, SameLedger}
 use Rattle.cells.specs.Past.{longer}
+use Rattle.cells.specs.Marks.{IsMarkedFor, IsHeadNow, IsNilNow}
 use Rattle.cells.specs.SoFar.{NamesMutableRow}
 
 -- Loading the head: the front is the history, the head generation is known, the load is noted, and
@@ -49,11 +52,13 @@ pub record LoadsHead (old : PassView) (word : ℕ) (new : PassView) : Type 0 whe
   pub view : new ≡ view_after_load_head word history seen generation old
   pub alone : old.facts.seats ≡ 1 → LoadsKnownHead old word generation new
 
--- Loading a sealed word: what it names may be known, and the front may reach further.
-abbrev pub view_after_load_sealed : List Known → List Entry → PassView → PassView
-view_after_load_sealed learned front view = record view {
+-- Loading a sealed word: what it names may be known, and the front may reach further, with a mark from
+-- there.
+abbrev pub view_after_load_sealed : List Known → List Entry → List Mark → PassView → PassView
+view_after_load_sealed learned front marks view = record view {
   front = front;
   known = learned ++ view.known;
+  marks = marks;
   made = record view.made { sealed_loads = view.made.sealed_loads + 1 };
 }
 
@@ -81,27 +86,42 @@ LearnsNothing view place learned =
     (at k : ℕ) (block : Published) → IsSealedWord view place at k block
     → (k ≢ 1) ⊎ (link_of block ≡ 0) → learned ≡ []
 
--- no mark of the view is on the row at the address
-abbrev pub IsUnmarked : PassView → ℕ → Type 0
-IsUnmarked view at = All (λ mark. mark.row ≢ at) view.marks
+-- the block is a row without an operation
+abbrev pub is_plain_row : Published → Bool
+is_plain_row (Generation generation) = false
+is_plain_row (Row row) = row.op == 0
+is_plain_row (Op op) = false
 
--- only the second word of a marked row may let the front reach further
-abbrev pub StaysAtFront : PassView → ℕ → List Entry → Type 0
-StaysAtFront view place front =
+-- only the second word of a row, where it names no operation, may let the front reach further
+abbrev pub StaysAtFront : PassView → ℕ → List Entry → List Mark → Type 0
+StaysAtFront view place front marks =
     (at k : ℕ) (block : Published) → IsSealedWord view place at k block
-    → (k ≢ 1) ⊎ IsUnmarked view at → front ≡ view.front
+    → (k ≢ 1) ⊎ (is_plain_row block ≡ false) → (front ≡ view.front) × (marks ≡ view.marks)
+
+-- the row has the key where the set after the view's front does
+abbrev pub AgreesAtFront : PassView → RowBlock → ℕ → Type 0
+AgreesAtFront view row key =
+    is_in row.keys key ≡ members_after (is_in view.facts.keys) view.front key
+
+-- A marked row that turns out to have no operation agrees with the set after the new front on the
+-- mark's keys, and is marked from there.
+abbrev pub AgreesWithMark : PassView → ℕ → PassView → Type 0
+AgreesWithMark old place new = (at : ℕ) (row : RowBlock) → IsSealedWord old place at 1 (Row row)
+    → row.op ≡ 0 → (key : ℕ) → IsMarkedFor old at key → AgreesAtFront new row key × IsMarkedFor new at key
 
 -- what loading a sealed word tells
 pub record LoadsSealed (place : ℕ) (old : PassView) (word : ℕ) (new : PassView) : Type 0 where
   pub learned : List Known
   pub front : List Entry
+  pub marks : List Mark
   pub reads : ReadsSealed old place word
   pub op : LearnsOp old place learned
   pub predecessor : LearnsPredecessor old place learned
   pub nothing : LearnsNothing old place learned
-  pub stays : StaysAtFront old place front
+  pub stays : StaysAtFront old place front marks
   pub grows : IsPrefix old.front front
-  pub view : new ≡ view_after_load_sealed learned front old
+  pub agrees : AgreesWithMark old place new
+  pub view : new ≡ view_after_load_sealed learned front marks old
   pub alone : old.facts.seats ≡ 1 → SameLedger old new
 
 -- Loading a bucket. A frozen bucket's row stays, so the front needs not reach further.
@@ -135,18 +155,56 @@ turn_after_load load loses (Some turn) =
     if loses then None
     else Some (record { head = turn.head; seen = turn.seen; loads = load ∷ turn.loads })
 
+-- the bucket, as one that was found nil
+abbrev pub nil_bucket : PassView → ℕ → List Entry → NilBucket
+nil_bucket view place history = record {
+  at = generation_at view.known place;
+  bucket = bucket_at view.known place;
+  front = history;
+}
+
 -- the front is the history but where the bucket is frozen; unless the bucket is nil, that is known
--- and so is its row; and the open turn has one load more or is lost
-abbrev pub view_after_load_bucket : ℕ → ℕ → List Entry → RowBlock → PassView → PassView
-view_after_load_bucket place word history row view = record view {
+-- and so is its row, and else that is noted; and the open turn has one load more or is lost
+abbrev pub view_after_load_bucket : ℕ → ℕ → List Entry → RowBlock → List Mark → PassView → PassView
+view_after_load_bucket place word history row marks view = record view {
   front = if is_frozen word then view.front else history;
   known = if is_nil word then view.known else known_block (row_address word) (Row row) ∷ view.known;
   filled = if is_nil word then view.filled else filled_bucket view place ∷ view.filled;
   lost = if loses_turn view place word view.turn then view.lost + 1 else view.lost;
   turn = turn_after_load (bucket_load view place word) (loses_turn view place word view.turn)
       view.turn;
+  marks = marks;
+  nils = if is_nil word then nil_bucket view place history ∷ view.nils else view.nils;
   made = record view.made { bucket_loads = view.made.bucket_loads + 1 };
 }
+
+-- the row of a mutable bucket is marked for the bucket's keys
+abbrev pub MarksMutable : PassView → ℕ → ℕ → PassView → Type 0
+MarksMutable old place word new = (at bucket : ℕ) (generation : GenerationBlock)
+    → IsBucketWord old place at bucket generation → ¬ IsNil word → IsMutable word
+    → (key : ℕ) → InClass generation.exponent bucket key → IsMarkedFor new (row_address word) key
+
+-- so is that of a frozen bucket of a generation that was loaded as the head from the front of now
+abbrev pub MarksOfHead : PassView → ℕ → ℕ → PassView → Type 0
+MarksOfHead old place word new = (at bucket : ℕ) (generation : GenerationBlock)
+    → IsBucketWord old place at bucket generation → IsFrozen word → IsHeadNow old at
+    → (key : ℕ) → InClass generation.exponent bucket key → IsMarkedFor new (row_address word) key
+
+-- That of a frozen bucket from which one is filled that was the latest to be found nil, from the front
+-- of now, is marked for the keys of both.
+abbrev pub MarksOfSource : PassView → ℕ → ℕ → PassView → Type 0
+MarksOfSource old place word new = (at bucket : ℕ) (generation : GenerationBlock)
+    → IsBucketWord old place at bucket generation → IsFrozen word
+    → (later nil : ℕ) (newer : GenerationBlock) → KnowsGeneration old later newer
+    → newer.predecessor ≡ at → IsNilNow old later nil
+    → (key : ℕ) → InClass newer.exponent nil key → InClass generation.exponent bucket key
+    → IsMarkedFor new (row_address word) key
+
+-- which rows are marked
+pub record MarksRow (place : ℕ) (old : PassView) (word : ℕ) (new : PassView) : Type 0 where
+  pub mutable : MarksMutable old place word new
+  pub head : MarksOfHead old place word new
+  pub source : MarksOfSource old place word new
 
 -- a bucket that isn't nil names a row of its own
 abbrev pub NamesOwnRow : PassView → ℕ → ℕ → RowBlock → Type 0
@@ -159,6 +217,13 @@ abbrev pub FindsFilled : PassView → ℕ → ℕ → Type 0
 FindsFilled view place word = (at bucket : ℕ) (generation : GenerationBlock)
     → IsBucketWord view place at bucket generation
     → (is_among view.filled at bucket ≡ true) ⊎ (generation.predecessor ≡ 0) → ¬ IsNil word
+
+-- a bucket of a generation that another is known to follow isn't nil
+abbrev pub FindsFollowed : PassView → ℕ → ℕ → Type 0
+FindsFollowed view place word = (at bucket : ℕ) (generation : GenerationBlock)
+    → IsBucketWord view place at bucket generation
+    → (later : ℕ) (newer : GenerationBlock) → KnowsGeneration view later newer
+    → newer.predecessor ≡ at → ¬ IsNil word
 
 -- a mutable row without an operation has the keys that the set after the history has in its bucket
 abbrev pub AgreesWithHistory : PassView → ℕ → List Entry → RowBlock → Type 0
@@ -182,8 +247,11 @@ pub record LoadsBucket (place : ℕ) (old : PassView) (word : ℕ) (new : PassVi
   pub grows : IsPrefix old.front history
   pub home : NamesOwnRow old place word row
   pub filled : FindsFilled old place word
+  pub followed : FindsFollowed old place word
+  pub marks : List Mark
   pub agrees : AgreesWithHistory old word history row
-  pub view : new ≡ view_after_load_bucket place word history row old
+  pub marked : MarksRow place old word new
+  pub view : new ≡ view_after_load_bucket place word history row marks old
   pub alone : old.facts.seats ≡ 1 → LoadsKnownBucket place old word new
   pub so_far : NamesMutableRow word
 

@@ -4,5 +4,7 @@ pub mod Found
 pub mod Copying
 pub mod Built
 pub mod Looking
+pub mod Meeting
+pub mod LookedUp
 pub mod Sought
 pub mod Turning

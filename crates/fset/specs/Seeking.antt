@@ -1,6 +1,5 @@
 -- The bucket of a key, as the open turn of a pass loaded it, and its row.
 use Rattle.std.specs.Prelude.{◌≡◌, ℕ, ◌+◌, List, [], ◌∷◌, Contains, Some}
-use Rattle.set_model.specs.Keys.{is_in}
 use Rattle.step_core.specs.Buckets.{key_bucket}
 use Rattle.step_core.specs.Content.{InClass}
 use Rattle.step_core.specs.Format.{IsNil, IsMutable, row_address}
@@ -11,12 +10,27 @@ use Rattle.step_core.specs.declared.views.Known.{Known}
 use Rattle.step_core.specs.declared.views.OpenTurn.{OpenTurn}
 use Rattle.step_core.specs.declared.views.PassView.{PassView}
 use Rattle.cells.specs.Exchanges.{load_of}
-use Rattle.cells.specs.Known.{known_block, IsBucketWord, row_at}
-use Rattle.fset.specs.Content.{Agrees, front_has}
+use Rattle.cells.specs.Frames.{after_reads}
+use Rattle.cells.specs.Known.{known_block, IsBucketWord, KnowsGeneration, row_at}
+use Rattle.cells.specs.Marks.{IsMarkedFor}
+use Rattle.cells.specs.Steps.{LoadsBucket}
+use Rattle.fset.specs.Content.{Agrees}
 use Rattle.fset.specs.Frames.{Grows, KeepsOwn, latest_row}
 use Rattle.fset.specs.Seen.{IsSeen}
 use Rattle.fset.specs.declared.seeking.LoadedBucket.{LoadedBucket}
 use Rattle.fset.specs.declared.seeking.Sought.{Sought}
+
+-- the address is that of a known generation
+abbrev pub KnowsGenerationAt : PassView → ℕ → Type 0
+KnowsGenerationAt view at = (generation : GenerationBlock) × KnowsGeneration view at generation
+
+-- the exponent of a known generation was loaded, and then the bucket of the key in it
+pub record LoadsBucketOf (at key : ℕ) (old : PassView) (bucket : LoadedBucket) (new : PassView)
+    : Type 0 where
+  pub generation : GenerationBlock
+  pub is_word : IsBucketWord (after_reads 1 old) bucket.place at
+      (key_bucket generation.exponent key) generation
+  pub loads : LoadsBucket bucket.place (after_reads 1 old) bucket.word new
 
 -- The open turn loaded the bucket of the key, in its head, and found this word of a mutable row.
 -- That stays so until the turn is closed.
@@ -30,7 +44,7 @@ pub record HasKeyBucket (view : PassView) (key place word : ℕ) : Type 0 where
   pub mutable : IsMutable word
 
 -- A turn was opened, and the key's bucket in its head loaded. The row that its word names is of the
--- key's class; where it has no operation it has the key where the set after the pass's front does.
+-- key's class, and is marked for the key.
 pub record LoadsKeyBucket (key : ℕ) (old : PassView) (bucket : LoadedBucket) (new : PassView)
     : Type 0 where
   pub head : ℕ
@@ -42,7 +56,7 @@ pub record LoadsKeyBucket (key : ℕ) (old : PassView) (bucket : LoadedBucket) (
   pub own : KeepsOwn old new
   pub loaded : HasKeyBucket new key bucket.place bucket.word
   pub home : InClass row.exponent row.bucket key
-  pub agrees : row.op ≡ 0 → is_in row.keys key ≡ front_has new key
+  pub marked : IsMarkedFor new (row_address bucket.word) key
   pub spent : new.spent ≡ old.spent
   pub hands : new.hands ≡ old.hands
   pub made : new.made ≡ record old.made {

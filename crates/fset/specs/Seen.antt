@@ -6,7 +6,8 @@ use Rattle.step_core.specs.declared.views.FixedCell.{FixedCell}
 use Rattle.step_core.specs.declared.views.Known.{Known}
 use Rattle.step_core.specs.declared.views.PassView.{PassView}
 use Rattle.cells.specs.Known.{known_block, KnowsRow, row_at, keys_at}
-use Rattle.cells.specs.Steps.{IsUnmarked}
+use Rattle.cells.specs.Marks.{IsMarkedFor}
+use Rattle.cells.specs.Steps.{AgreesAtFront}
 use Rattle.fset.specs.declared.seen.Seen.{Seen}
 use Rattle.fset.specs.Frames.{Reads}
 
@@ -45,5 +46,7 @@ pub record ReadsRow (at : ℕ) (old : PassView) (seen : Seen) (new : PassView) :
   -- and one with an operation that operation alone, whose result isn't loaded
   pub learns_op : seen.op ≢ 0 → (op : OpBlock) × (learned ≡ known_block seen.op (Op op) ∷ [])
   pub unread : seen.result ≡ 0
-  -- and the front stays where the pass has no mark on the row
-  pub unmarked : IsUnmarked old at → new.front ≡ old.front
+  -- A marked row without an operation agrees with the set after the new front on the mark's keys, and is
+  -- marked from there.
+  pub marked : seen.op ≡ 0 → (key : ℕ) → IsMarkedFor old at key
+      → AgreesAtFront new (row_at new.known at) key × IsMarkedFor new at key

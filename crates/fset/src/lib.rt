@@ -8,13 +8,14 @@
 //!
 //! The promise is that of `turn`: a call that it answers with a change has exactly one entry, past all
 //! that its pass had seen; one without a change has none, and the answer of the set after what the
-//! pass has then seen (`EndsTurn` of `specs/Turns.antt`). `seek` finds the row of a key, and `find`
+//! pass has then seen (`EndsTurn` of `specs/Turns.antt`). `seek` finds the row of a key in a turn and `look_up` without one, and `find`
 //! answers whether the content has it, whatever other passes do meanwhile, since a published row
 //! never changes. What a call learned, drew and lost is exact, and adds up (`specs/Frames.antt`). The
 //! smallest use is the test `a_turn_changes_the_set_once`.
 #![tactic(auto)]
 
 mod content;
+mod looking;
 mod outcomes;
 mod rows;
 mod seeking;
@@ -22,6 +23,7 @@ mod seen;
 mod turns;
 
 pub use content::find;
+pub use looking::look_up;
 pub use outcomes::{Answered, Outcome, Turn};
 pub use rows::build_changed;
 pub use seeking::{Sought, seek};

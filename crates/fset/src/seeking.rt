@@ -1,7 +1,7 @@
 // Finding the bucket of a key and its row.
 ghost use Rattle.std.specs.Prelude.{◌≡◌};
 ghost use Rattle.cells.specs.Tokens.{IsPassOf, IsSamePass};
-ghost use Rattle.fset.specs.Seeking.{LoadsKeyBucket, Seeks};
+ghost use Rattle.fset.specs.Seeking.{KnowsGenerationAt, LoadsBucketOf, LoadsKeyBucket, Seeks};
 
 use crate::{Seen, read_row};
 use cells::{Pass, Round};
@@ -54,9 +54,20 @@ fn load_key_bucket(round: &Round, pass: &mut Pass, key: u64) -> LoadedBucket
 {
     let head = round.load_head(pass);
     round.sound(pass);
-    let exponent = round.load_sealed(pass, head);
+    load_bucket_of(round, pass, head, key)
+}
+
+// Loads the bucket of the key in the generation at the address.
+pub(crate) fn load_bucket_of(round: &Round, pass: &mut Pass, at: u64, key: u64) -> LoadedBucket
+    requires pass { IsPassOf round.now pass.old }
+    requires knows { KnowsGenerationAt pass.old.view at }
+    ensures pass { IsSamePass pass.old pass.new }
+    ensures answer { LoadsBucketOf at key pass.old.view result pass.new.view }
+{
     round.sound(pass);
-    let place = head + FIRST_BUCKET + bucket_of(key, exponent as u32);
+    let exponent = round.load_sealed(pass, at);
+    round.sound(pass);
+    let place = at + FIRST_BUCKET + bucket_of(key, exponent as u32);
     let word = round.load_bucket(pass, place);
     LoadedBucket { place, word }
 }

@@ -1,6 +1,8 @@
 -- How the calls on the set end.
-use Rattle.std.specs.Prelude.{◌≡◌, ◌≢◌, ℕ, ◌+◌, ◌<◌, ◌≤◌, ◌⊎◌, false, List, None, Some}
+use Rattle.std.specs.Prelude.{◌≡◌, ◌≢◌, ℕ, ◌+◌, ◌<◌, ◌≤◌, ◌⊎◌, false, List, ◌∷◌, None, Some}
+use mathlib.Core.List.{IsPrefix}
 use Rattle.set_model.specs.declared.call.Call.{Call}
+use Rattle.step_core.specs.declared.views.HeadLoad.{HeadLoad}
 use Rattle.step_core.specs.declared.views.Known.{Known}
 use Rattle.step_core.specs.declared.views.PassView.{PassView}
 use Rattle.step_core.specs.declared.views.StepCounts.{StepCounts}
@@ -20,19 +22,28 @@ pub record BeginsCall (old new : PassValue) : Type 0 where
   pub facts : new.view.facts ≡ old.view.facts
   pub calls : new.calls ≡ old.calls + 1
 
--- A call looked at a bucket of the head, and at most at all words of its row: it drew nothing, lost no
--- turn and has no entry.
+-- A call loaded the head, one bucket or two, and at most all words of the row there: it drew nothing and
+-- has no entry. It lost one turn at most, that which was open. Its front isn't shorter than the one that
+-- it had at the load of the head.
 pub record OnlyLooks (old new : PassView) : Type 0 where
   pub learned : List Known
-  pub grows : Grows learned 0 0 old new
+  pub losses : ℕ
+  pub few_losses : losses ≤ 1
+  pub grows : Grows learned 0 losses old new
   pub own : KeepsOwn old new
+  pub head : HeadLoad
+  pub heads : new.heads ≡ head ∷ old.heads
+  pub further : IsPrefix head.front new.front
   pub spent : new.spent ≡ old.spent
+  pub hands : new.hands ≡ old.hands
+  pub buckets : ℕ
+  pub few_buckets : (buckets ≡ 1) ⊎ (buckets ≡ 2)
   pub loads : ℕ
-  pub few : loads ≤ 3 + widest learned
+  pub few : loads ≤ 5 + widest learned
   pub made : new.made ≡ record old.made {
     head_loads = old.made.head_loads + 1;
     sealed_loads = old.made.sealed_loads + loads;
-    bucket_loads = old.made.bucket_loads + 1;
+    bucket_loads = old.made.bucket_loads + buckets;
   }
 
 -- the steps of so many turns: for each one load of the head and one of a bucket, and at most one draw

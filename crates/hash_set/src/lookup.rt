@@ -7,12 +7,14 @@ ghost use Rattle.set_model.specs.declared.call.Call.TheVariants.{Contains};
 ghost use Rattle.step_core.specs.Limits.{max_calls};
 
 use cells::{Pass, Round};
-use fset::{find, seek};
+use fset::{find, look_up};
 
-/// Whether the key is in the set. It has no refusal, draws nothing, and makes one load of the head
-/// and one of a bucket.
+/// Whether the key is in the set. It has no refusal, helps nobody and draws nothing, and makes one load
+/// of the head and one of a bucket, or two, of which the second is one of the generation before.
 ///
-/// The answer is that of the set after the pass's new front, which begins with its old one.
+/// The answer is that of the set after the pass's new front, which begins with its old one and with
+/// what had taken effect when the head was loaded. The row that it reads may have been replaced by
+/// then: the set had what the row has at some time since.
 pub fn contains(round: &Round, pass: &mut Pass, key: u64) -> bool
     requires pass { IsPassOf round.now pass.old }
     requires few { pass.old.calls < max_calls }
@@ -21,6 +23,6 @@ pub fn contains(round: &Round, pass: &mut Pass, key: u64) -> bool
     ensures looks { OnlyLooks pass.old.view pass.new.view }
 {
     round.begin_call(pass);
-    let sought = seek(round, pass, key);
-    find(round, pass, &sought.row, key)
+    let row = look_up(round, pass, key);
+    find(round, pass, &row, key)
 }

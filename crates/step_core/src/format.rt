@@ -70,6 +70,15 @@ pub fn row_address(word: u64) -> u64
     word / 2
 }
 
+/// The word of a generation that holds the address of its predecessor, or 0. At the generation's address
+/// itself stands its exponent.
+pub fn predecessor_place(generation: u64) -> u64
+    requires { generation + 1 < 2 ^ 64 }
+    ensures { result ≡ generation + 1 }
+{
+    generation + 1
+}
+
 /// The word of a row that holds the address of its operation, or 0. At the row's address itself
 /// stands the number of its keys.
 pub fn op_place(row: u64) -> u64

@@ -29,7 +29,7 @@ pub use exponents::opening_words;
 pub use format::{
     FIRST_ANNOUNCED, FIRST_BUCKET, FIRST_KEY, HEAD, MAX_CALLS, MAX_DRAW, MAX_EXPONENT, MAX_KEYS,
     MAX_SEATS, MAX_TURNS, MAX_WORDS, NEXT, OP_LEN, SPOT_FACTOR, TICKET, frozen_word, key_place,
-    mutable_word, op_place, row_address,
+    mutable_word, op_place, predecessor_place, row_address,
 };
 pub use kinds::Step;
 pub use layout::{Layout, Plan};

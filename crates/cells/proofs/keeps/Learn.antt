@@ -22,7 +22,8 @@ learn_moves facts old step words state history round there small =
     let own = longer-own old.front old.heard history begun.front begun.heard in
     let begins = longer-begins old.front old.heard history begun.front begun.heard in
     let goes = sees_goes round old new there refl own begins (history, refl) (round.fits.known old.number old there)
-    (given_known facts.keys old.front new.front old.known own (round.so_far.given old.number old there)) (λ alone. refl) in
+    (given_known facts.keys old.front new.front old.known own (round.so_far.given old.number old there))
+    (round.hindsight old.number old there).marks (λ alone. refl) in
     let stays : old.facts.seats ≡ 1 → new.front ≡ old.front = λ alone.
     let seats : facts.seats ≡ 1 =
     ap (λ (facts : RoundFacts). facts.seats) (sym (round.fits.numbered old.number old there).same_round) ∙ alone in

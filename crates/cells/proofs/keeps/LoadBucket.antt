@@ -15,23 +15,25 @@ use Rattle.step_core.specs.Format.{IsNil, IsMutable, row_address}
 use Rattle.step_core.specs.States.{RoundState, IsRow}
 use Rattle.step_core.specs.declared.kinds.Step.TheVariants.{LoadBucket}
 use Rattle.step_core.specs.declared.published.Published.{Published}
-use Rattle.step_core.specs.declared.published.Published.TheVariants.{Generation, Row}
+use Rattle.step_core.specs.declared.published.Published.TheVariants.{Row}
 use Rattle.step_core.specs.declared.published.GenerationBlock.{GenerationBlock}
 use Rattle.step_core.specs.declared.published.RowBlock.{RowBlock}
 use Rattle.step_core.specs.declared.views.FilledBucket.{FilledBucket}
 use Rattle.step_core.specs.declared.views.Known.{Known}
+use Rattle.step_core.specs.declared.views.NilBucket.{NilBucket}
 use Rattle.step_core.specs.declared.views.PassView.{PassView}
 use Rattle.step_core.specs.declared.views.RoundFacts.{RoundFacts}
+use Rattle.cells.specs.Hindsight.{HasHindsight, StoodInSources}
 use Rattle.cells.specs.Invariant.{HoldsRound, IsFilled}
-use Rattle.cells.specs.Known.{known_block, no_row, generation_at, bucket_at, KnowsBucket, KnowsBlock, IsBucketWord}
+use Rattle.cells.specs.Known.{known_block, no_row, generation_at, bucket_at, KnowsBucket, IsBucketWord}
 use Rattle.cells.specs.Lone.{head_at, head_generation, is_untouched, KnowsTable}
 use Rattle.cells.specs.Moves.{Moved, Moves, load_bucket_tells}
 use Rattle.cells.specs.Paid.{wins_of}
 use Rattle.cells.specs.Sound.{IsSound}
-use Rattle.cells.specs.Steps.{LoadsBucket, LoadsKnownBucket, AgreesWithHistory, NamesOwnRow, is_nil, is_frozen, filled_bucket, view_after_load_bucket}
+use Rattle.cells.specs.Steps.{LoadsBucket, LoadsKnownBucket, AgreesWithHistory, NamesOwnRow, is_nil, is_frozen, filled_bucket, nil_bucket, view_after_load_bucket}
 use Rattle.cells.specs.SoFar.{IsGivenBlock, KnowsGiven}
 use Rattle.cells.proofs.laws.BucketLoads.{is_frozen-mutable, is_nil-nil, is_nil-other}
-use Rattle.cells.proofs.laws.FoundBucket.{published, word_is, row_there, finds_filled, names_row, row_agrees, is_untouched-cases}
+use Rattle.cells.proofs.laws.FoundBucket.{published, word_is, row_there, finds_filled, finds_followed, names_row, row_agrees, is_untouched-cases}
 use Rattle.cells.proofs.laws.Given.{given_published}
 use Rattle.cells.proofs.laws.Known.{generation_at-known}
 use Rattle.cells.proofs.laws.Lone.{same_ledger, table_stays}
@@ -39,6 +41,8 @@ use Rattle.cells.proofs.laws.LoneBucket.{is_touched, bucket_generation, bucket_u
 use Rattle.cells.proofs.laws.LoneRound.{lone_front}
 use Rattle.cells.proofs.laws.Paid.{paid_load_bucket}
 use Rattle.cells.proofs.laws.Sound.{sound_view}
+use Rattle.cells.proofs.keeps.MarkBucket.{Marking, marking, one_bucket}
+use Rattle.cells.proofs.laws.Marking.{nil_stands}
 use Rattle.cells.proofs.parts.NoWord.{load_moved}
 use Rattle.cells.proofs.parts.PutView.{Goes}
 
@@ -66,6 +70,14 @@ filled_known cells word bucket full here others = elim (ℕ_discrete word 0) [
       (All-cons (IsFilled cells) bucket full (here some_row) others)
 ]
 
+-- where the word is nil, the bucket is one of those that were found so
+nils_known : (Fact : NilBucket → Type 0) (word : ℕ) (bucket : NilBucket) (nils : List NilBucket) → (IsNil word → Fact bucket)
+    → All Fact nils → All Fact (if is_nil word then bucket ∷ nils else nils)
+nils_known Fact word bucket nils here others = elim (ℕ_discrete word 0) [
+  | yes nil ↦ subst (λ b. All Fact (cond b (bucket ∷ nils) nils)) (sym (is_nil-nil word nil)) (All-cons Fact bucket nils (here nil) others)
+  | no some_row ↦ subst (λ b. All Fact (cond b (bucket ∷ nils) nils)) (sym (is_nil-other word some_row)) others
+]
+
 -- the front is the history or stays
 front_grows : (frozen : Bool) (front history : List Entry) → IsPrefix front history → IsPrefix front (if frozen then front else history)
 front_grows true front history begins = prefix_refl front
@@ -81,19 +93,6 @@ front_same : (frozen : Bool) (front history : List Entry) → front ≡ history 
 front_same true front history whole = refl
 front_same false front history whole = sym whole
 
--- a place is the word of one bucket of one known generation
-one_bucket : (view : PassView) (place at bucket other other_bucket : ℕ) (generation other_generation : GenerationBlock) → IsSound view
-    → IsBucketWord view place at bucket generation → IsBucketWord view place other other_bucket other_generation
-    → (generation ≡ other_generation) × (bucket ≡ other_bucket)
-one_bucket view place at bucket other other_bucket generation other_generation sound one two =
-    let first = generation_at-known view place at bucket generation sound one in
-    let second = generation_at-known view place other other_bucket other_generation sound two in
-    let same : at ≡ other = sym first.0 ∙ second.0 in
-    let blocks : Generation generation ≡ Generation other_generation =
-    sound.one other (Generation generation) (Generation other_generation)
-    (subst (λ (a : ℕ). KnowsBlock view a (Generation generation)) same one.known) two.known in
-    (cc, sym first.1 ∙ second.1)
-
 module _ {facts : RoundFacts} {words : List ℕ} {state : RoundState} {history : List Entry} (round : HoldsRound facts words state history)
     (old : PassView) (there : get_elem? state.views old.number ≡ some old) (place at bucket : ℕ) (generation : GenerationBlock)
     (is : IsBucketWord old place at bucket generation) where
@@ -107,9 +106,13 @@ module _ {facts : RoundFacts} {words : List ℕ} {state : RoundState} {history :
 
   module _ (row : RowBlock) (here : ¬ IsNil found → IsRow state.blocks (row_address found) row) (home : NamesOwnRow old place found row)
       (agrees : AgreesWithHistory old found history row) where
+    -- the marks that it leaves
+    marks : Marking round old there place at bucket generation is row
+    marks = marking round old there place at bucket generation is row
+
     -- the view after the load
     abbrev new_view : PassView
-    new_view = view_after_load_bucket place found history row old
+    new_view = view_after_load_bucket place found history row marks.marks old
 
     -- where the lookups find the bucket
     lookup : (generation_at old.known place ≡ at) × (bucket_at old.known place ≡ bucket)
@@ -124,13 +127,13 @@ module _ {facts : RoundFacts} {words : List ℕ} {state : RoundState} {history :
       same_generation : head_generation new_view ≡ head_generation old
       same_generation = bucket_generation state.head state.blocks state.cells old table place at bucket found generation lookup.0 lookup.1
           (published round old there place at bucket generation is) is.within
-          (word_is round old there place at bucket generation is) history row here
+          (word_is round old there place at bucket generation is) history row marks.marks here
 
       -- and the same buckets are untouched
       same_untouched : (b : ℕ) → is_untouched new_view b ≡ is_untouched old b
       same_untouched = bucket_untouched state.head state.blocks state.cells old table place at bucket found generation lookup.0 lookup.1
           (published round old there place at bucket generation is) is.within
-          (word_is round old there place at bucket generation is) history row here
+          (word_is round old there place at bucket generation is) history row marks.marks here
 
       -- the front is the whole history before and after
       same_front : new_view.front ≡ old.front
@@ -169,6 +172,20 @@ module _ {facts : RoundFacts} {words : List ℕ} {state : RoundState} {history :
         (given_published facts.keys history state.blocks new_view.known round.given
         (row_known state.blocks found row old.known here (round.fits.known old.number old there)))
 
+    -- what the view noted is so
+    noted : HasHindsight facts.keys state.blocks state.cells history old.number new_view
+    noted =
+        let was = round.hindsight old.number old there in
+        record {
+          marks = marks.stood;
+          heads = was.heads;
+          nils = nils_known (StoodInSources facts.keys state.blocks state.cells history) found (nil_bucket old place history) old.nils
+              (λ nil. subst (StoodInSources facts.keys state.blocks state.cells history)
+              (ap₂ (λ (at bucket : ℕ). record { at = at; bucket = bucket; front = history }) (sym lookup.0) (sym lookup.1))
+              (nil_stands round at bucket generation (published round old there place at bucket generation is) is.within
+              (sym (word_is round old there place at bucket generation is) ∙ nil))) was.nils;
+        }
+
     -- the view owes nothing
     goes : Goes facts state.head state.blocks state.cells history (wins_of state.views) old new_view
     goes =
@@ -190,10 +207,10 @@ module _ {facts : RoundFacts} {words : List ℕ} {state : RoundState} {history :
           won = refl;
           paid = paid_load_bucket (wins_of state.views) state.head state.cells old (round.paid old.number old there)
               place at bucket found lookup.0 lookup.1 (word_is round old there place at bucket generation is)
-              round.fits.holds.chain.mutable history row;
+              round.fits.holds.chain.mutable history row marks.marks;
           alone = λ alone. table_stays old new_view refl (same_generation alone) (same_untouched alone)
               state.head state.blocks state.cells refl (table alone);
-          no_mark = round.so_far.no_mark old.number old there;
+          hindsight = noted;
           given = given_now;
         }
 
@@ -205,7 +222,11 @@ module _ {facts : RoundFacts} {words : List ℕ} {state : RoundState} {history :
       grows = (round.past.begun old.number old there).front;
       home = home;
       filled = λ other other_bucket g too reason. finds_filled round old there place other other_bucket g too reason;
+      followed = λ other other_bucket g too later newer known behind.
+          finds_followed round old there place other other_bucket g too later newer known behind;
+      marks = marks.marks;
       agrees = agrees;
+      marked = marks.marked;
       view = refl;
       alone = λ alone. loads_known
           (ap (λ (facts : RoundFacts). facts.seats) (sym (round.fits.numbered old.number old there).same_round) ∙ alone);

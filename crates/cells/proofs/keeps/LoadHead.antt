@@ -14,12 +14,14 @@ use Rattle.step_core.specs.declared.published.GenerationBlock.{GenerationBlock}
 use Rattle.step_core.specs.declared.views.PassView.{PassView}
 use Rattle.step_core.specs.declared.views.RoundFacts.{RoundFacts}
 use Rattle.cells.specs.Known.{known_block}
+use Rattle.cells.specs.Hindsight.{StoodInHead}
 use Rattle.cells.specs.Invariant.{HoldsRound}
 use Rattle.cells.specs.Lone.{head_at, first_generation, head_generation, is_untouched, KnowsTable}
 use Rattle.cells.specs.Moves.{Moves, load_head_tells}
 use Rattle.cells.specs.Paid.{wins_of}
 use Rattle.cells.specs.Steps.{LoadsKnownHead, view_after_load_head}
 use Rattle.cells.proofs.laws.Given.{given_published}
+use Rattle.cells.proofs.laws.Marking.{head_stands}
 use Rattle.cells.proofs.laws.Lone.{generation_in-first, is_untouched-same, same_ledger, table_stays}
 use Rattle.cells.proofs.laws.LoneRound.{lone_front}
 use Rattle.cells.proofs.laws.Paid.{paid_load_head}
@@ -102,7 +104,14 @@ module _ {facts : RoundFacts} {words : List ℕ} {state : RoundState} {history :
             (wins_of state.views - old.won) generation is_head refl;
         alone = λ alone. table_stays old new refl (same_generation alone) (same_untouched alone) state.head state.blocks state.cells
             (same_head alone) (table alone);
-        no_mark = round.so_far.no_mark old.number old there;
+        hindsight =
+            let was = round.hindsight old.number old there in
+            record {
+              marks = was.marks;
+              heads = All-cons (StoodInHead facts.keys state.blocks state.cells history) (record { at = word; front = history }) old.heads
+                  (head_stands round word generation is_head here) was.heads;
+              nils = was.nils;
+            };
         given = given_published facts.keys history state.blocks (known_block word (Generation generation) ∷ old.known) round.given
             (All-cons (IsPublished state.blocks) (known_block word (Generation generation)) old.known
             here (round.fits.known old.number old there));

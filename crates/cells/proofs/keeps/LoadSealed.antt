@@ -1,9 +1,8 @@
 -- A load of a sealed word keeps the invariant: it reads what is known, and what it names is then known.
-use Rattle.std.proofs.Common.{◌≡◌, ◌≢◌, ◌⊎◌, inl, inr, ⊎_elim, ℕ, List, [], ◌∷◌, get_or, set, nat_eq, cond, Bool, true, false, if◌then◌else◌, refl, sym, ap, ◌∙◌, subst, arith, Option, Some, None, All}
+use Rattle.std.proofs.Common.{◌≡◌, ◌≢◌, ◌⊎◌, inl, inr, ⊎_elim, ℕ, List, [], ◌∷◌, ◌++◌, get_or, set, nat_eq, cond, Bool, true, false, if◌then◌else◌, refl, sym, ap, ◌∙◌, subst, arith, Option, Some, None, All}
 use mathlib.Core.Option.{some}
 use lib.ListN.{get_elem?}
 use native.Mathlib.Decide.{ℕ_discrete}
-use base.Growing.{prefix_refl}
 use Rattle.std.proofs.lemmas.List.Elements.{All-cons, All-nil, All-append, All-contains}
 use Rattle.std.proofs.lemmas.Bool.Decides.{nat_tests}
 use Rattle.atomic_table.specs.Table.{Step as TableStep}
@@ -17,13 +16,16 @@ use Rattle.step_core.specs.declared.views.PassView.{PassView}
 use Rattle.step_core.specs.declared.views.RoundFacts.{RoundFacts}
 use Rattle.cells.specs.Invariant.{HoldsRound}
 use Rattle.cells.specs.Known.{known_block, KnowsBlock, KnowsSealed, link_of, IsSealedWord}
-use Rattle.cells.specs.Sound.{IsInBlock, IsSound}
+use Rattle.cells.specs.Sound.{IsSound}
 use Rattle.cells.specs.Lone.{head_at, first_generation, head_generation}
 use Rattle.cells.specs.Moves.{Moved, Moves, load_sealed_tells}
 use Rattle.cells.specs.Paid.{wins_of}
 use Rattle.cells.specs.Steps.{LoadsSealed, ReadsSealed, LearnsOp, LearnsPredecessor, LearnsNothing, view_after_load_sealed}
 use Rattle.step_core.specs.Fits.{IsPublished}
-use Rattle.cells.proofs.parts.PutView.{Goes}
+use Rattle.cells.proofs.keeps.MarkSealed.{Reach, one_word, reach}
+use Rattle.cells.proofs.laws.Given.{given_known}
+use Rattle.cells.proofs.laws.LoneRound.{lone_front}
+use Rattle.cells.proofs.parts.PutView.{Goes, stays_whole}
 use Rattle.cells.proofs.parts.NoWord.{load_moved}
 use Rattle.cells.proofs.parts.SameTurns.{sees_goes}
 use Rattle.cells.proofs.laws.Lone.{generation_in-stays, is_untouched-same, same_ledger}
@@ -67,20 +69,6 @@ learned_is blocks named block some_word there =
     let test : nat_eq named 0 ≡ false = grind (arith, nat_tests, some_word) in
     ap (λ (b : Bool). cond b [] (learned_there (blocks named) named)) test
     ∙ ap (λ (o : Option Published). learned_there o named) there
-
--- a place is one word of one known block
-one_word : (view : PassView) (place at k other other_k : ℕ) (block other_block : Published) → IsSound view
-    → IsSealedWord view place at k block → IsSealedWord view place other other_k other_block → (k ≡ other_k) × (block ≡ other_block)
-one_word view place at k other other_k block other_block sound one two =
-    let low = one.sealed in
-    let other_low = two.sealed in
-    let here = one.here in
-    let there = two.here in
-    let in_one : IsInBlock view at place = record { block = block; known = one.known; begun = omega arith; within = omega arith } in
-    let in_other : IsInBlock view other place =
-    record { block = other_block; known = two.known; begun = omega arith; within = omega arith } in
-    let same : at ≡ other = sound.apart at other place in_one in_other in
-    (omega arith, sound.one other block other_block (subst (λ (a : ℕ). KnowsBlock view a block) same one.known) two.known)
 
 -- a word other than the second, or of a block without a link, names nothing
 names_nothing : (k : ℕ) (block : Published) → (k ≢ 1) ⊎ (link_of block ≡ 0) → named_by block k ≡ 0
@@ -150,9 +138,13 @@ module _ {facts : RoundFacts} {words : List ℕ} {state : RoundState} {history :
       (λ (apart : other_k ≢ 1). inl (λ (e : k ≡ 1). apart (sym same.0 ∙ e)))
       (λ (zero_link : link_of other_block ≡ 0). inr (ap link_of same.1 ∙ zero_link)) none))
 
+  -- the front that it reaches, and the marks that it leaves
+  reached : Reach round old there place at learned
+  reached = reach round old there place at learned k block sealed
+
   -- the view after the load
   abbrev new_view : PassView
-  new_view = view_after_load_sealed learned old.front old
+  new_view = view_after_load_sealed learned reached.front reached.marks old
 
   -- all that became known is published
   learned_published : All (IsPublished state.blocks) learned
@@ -178,32 +170,41 @@ module _ {facts : RoundFacts} {words : List ℕ} {state : RoundState} {history :
       learned_published
       (subst (λ (a : ℕ). IsGeneration state.blocks a (head_generation old)) (sym table.head_is) table.generation) refl
 
+  -- and has seen no more, as it had seen all
+  same_front : facts.seats ≡ 1 → reached.front ≡ old.front
+  same_front alone =
+      let whole = lone_front round old.number old there alone in
+      stays_whole old.front reached.front history whole reached.grows reached.begins ∙ sym whole
+
   -- the view owes nothing
   goes : Goes facts state.head state.blocks state.cells history (wins_of state.views) old new_view
   goes =
       let begun = round.past.begun old.number old there in
-      sees_goes round old new_view there refl (prefix_refl old.front) begun.front begun.heard
+      sees_goes round old new_view there refl reached.grows reached.begins begun.heard
       (All-append (IsPublished state.blocks) learned old.known learned_published (round.fits.known old.number old there))
-      (All-append (IsGivenBlock facts.keys old.front) learned old.known learned_given (round.so_far.given old.number old there))
-      same_generation
+      (given_known facts.keys old.front reached.front (learned ++ old.known) reached.grows
+      (All-append (IsGivenBlock facts.keys old.front) learned old.known learned_given (round.so_far.given old.number old there)))
+      reached.stood same_generation
 
   -- so the load moves the round
   moved : Moved facts (set words place (get_or words place 0)) state history old (LoadsSealed place old (get_or words place 0))
   moved = load_moved round old new_view there goes refl refl refl place (LoadsSealed place old (get_or words place 0)) (record {
     learned = learned;
-    front = old.front;
+    front = reached.front;
+    marks = reached.marks;
     reads = reads;
     op = learns_op;
     predecessor = learns_predecessor;
     nothing = learns_nothing;
-    stays = λ other other_k block word apart. refl;
-    grows = prefix_refl old.front;
+    stays = reached.stays;
+    grows = reached.grows;
+    agrees = reached.agrees;
     view = refl;
     alone = λ alone.
         let seats : facts.seats ≡ 1 =
         ap (λ (facts : RoundFacts). facts.seats) (sym (round.fits.numbered old.number old there).same_round) ∙ alone in
         same_ledger old new_view refl (same_generation seats)
-        (is_untouched-same old new_view refl (same_generation seats) refl) refl refl refl;
+        (is_untouched-same old new_view refl (same_generation seats) refl) (same_front seats) refl refl;
   })
 
 -- whatever the round is, the pass may load a sealed word that it knows

@@ -59,7 +59,9 @@ module _ {facts : RoundFacts} {words : List ℕ} {state : RoundState} {history :
         paid = paid;
         alone = λ alone. table_stays old new_view refl refl (is_untouched-same old new_view refl refl refl)
             state.head state.blocks state.cells refl (round.alone old.number old there alone);
-        no_mark = round.so_far.no_mark old.number old there;
+        hindsight =
+            let was = round.hindsight old.number old there in
+            record { marks = was.marks; heads = was.heads; nils = was.nils };
         given = round.so_far.given old.number old there;
       }
 

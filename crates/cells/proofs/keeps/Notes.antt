@@ -25,6 +25,7 @@ use Rattle.cells.specs.Steps.{view_after_note}
 use Rattle.cells.specs.Seats.{IsRuled, IsSeat, AreSeated, SpeaksFor, pass_of, pass_seat, note_seat, spent_seat}
 use Rattle.cells.proofs.laws.Seats.{speaks_for, reseated}
 use Rattle.cells.proofs.parts.Seated.{beside_seated}
+use Rattle.cells.proofs.laws.Counted.{sound_counted}
 use Rattle.cells.proofs.parts.SameTurns.{sees_goes}
 use Rattle.cells.proofs.parts.PutState.{there_inside}
 use Rattle.cells.proofs.parts.PutView.{Goes, put, put_view, account_stays}
@@ -55,7 +56,7 @@ module _ {facts : RoundFacts} {words : List ℕ} {state : RoundState} {history :
   goes =
       let begun = round.past.begun old.number old there in
       sees_goes round old heard there refl (prefix_refl old.front) begun.front begins (round.fits.known old.number old there)
-      (round.so_far.given old.number old there) (λ alone. refl)
+      (round.so_far.given old.number old there) (round.hindsight old.number old there).marks (λ alone. refl)
 
   -- the invariant holds with the front that the pass heard
   hear_view : HoldsRound facts words (put round old heard there goes state.owners state.next) history
@@ -72,7 +73,8 @@ module _ {facts : RoundFacts} {words : List ℕ} {state : RoundState} {history :
   note_goes =
       let begun = round.past.begun old.number old there in
       sees_goes round old (view_after_note old) there refl (prefix_refl old.front) begun.front begun.heard
-      (round.fits.known old.number old there) (round.so_far.given old.number old there) (λ alone. refl)
+      (round.fits.known old.number old there) (round.so_far.given old.number old there)
+      (round.hindsight old.number old there).marks (λ alone. refl)
 
   -- the invariant holds with it
   note_view : HoldsRound facts words (put round old (view_after_note old) there note_goes state.owners state.next) history
@@ -90,30 +92,7 @@ one_pass_still old new view one joined =
     ∙ ((λ i. (pass_seat view, (one i).1))
     ∙ sym (ap (λ (me : Me ℕ SeatView). (pass_seat (pass_of me.0), [])) joined))
 
--- a view that has made a note is as sound
-sound_noted : (view : PassView) → IsSound view → IsSound (view_after_note view)
-sound_noted view sound = record {
-  facts = sound.facts;
-  seat = sound.seat;
-  legal = sound.legal;
-  used = sound.used;
-  blocks = sound.blocks;
-  one = sound.one;
-  apart = λ at other place word too. sound.apart at other place
-      (record { block = word.block; known = word.known; begun = word.begun; within = word.within })
-      (record { block = too.block; known = too.known; begun = too.begun; within = too.within });
-  rows = sound.rows;
-  generations = sound.generations;
-  hands = λ at place word. sound.hands at place (record { begun = word.begun; within = word.within });
-  hands_apart = λ at other place word too. sound.hands_apart at other place (record { begun = word.begun; within = word.within })
-      (record { begun = too.begun; within = too.within });
-  hands_unknown = λ at other place word too. sound.hands_unknown at other place (record { begun = word.begun; within = word.within })
-      (record { block = too.block; known = too.known; begun = too.begun; within = too.within });
-  lone = sound.lone;
-  so_far = record { first = sound.so_far.first; no_op = sound.so_far.no_op; no_mark = sound.so_far.no_mark; given = sound.so_far.given };
-}
-
--- and the pass is whole with it
+-- a pass that has made a note is whole
 pub noted_whole : (old new : pass.Inside) → IsWhole old → new.seat.me ≡ (pass_seat (view_after_note (pass_of old.seat.me.0)), old.seat.me.1)
     → new.number ≡ old.number → new.spent ≡ old.spent → new.calls ≡ old.calls → IsWhole new
 noted_whole old new whole me number spent calls =
@@ -123,7 +102,7 @@ noted_whole old new whole me number spent calls =
       one = one_pass_still old.seat.me new.seat.me (view_after_note (pass_of old.seat.me.0)) whole.one me;
       number = number ∙ whole.number ∙ sym (ap (λ (v : PassView). v.number) view);
       spent = spent ∙ whole.spent ∙ sym (ap (λ (v : PassView). v.spent) view);
-      sound = subst IsSound (sym view) (sound_noted (pass_of old.seat.me.0) whole.sound);
+      sound = subst IsSound (sym view) (sound_counted (pass_of old.seat.me.0) (view_after_note (pass_of old.seat.me.0)).made whole.sound);
       serials = record {
         serials = subst (λ (z : List Entry × ℕ). All (λ entry. entry.serial < z.1) z.0)
             (λ i. (ap (λ (v : PassView). v.mine) (sym view) i, sym calls i)) whole.serials.serials;

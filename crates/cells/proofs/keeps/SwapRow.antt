@@ -1,5 +1,5 @@
 -- The exchange of a row keeps the invariant, won or lost.
-use Rattle.std.proofs.Common.{◌≡◌, ◌≢◌, ⊎_elim, ℕ, ◌+◌, ◌<◌, ◌≤◌, Bool, true, cond, List, [], ◌∷◌, ◌++◌, get_or, set, Option, Some, None, All, refl, sym, ap, ◌∙◌, subst, arith, append-nil, eq-eqb, ne_eqb}
+use Rattle.std.proofs.Common.{◌≡◌, ◌≢◌, inl, ⊎_elim, ℕ, ◌+◌, ◌<◌, ◌≤◌, Bool, true, cond, List, [], ◌∷◌, ◌++◌, get_or, set, Option, Some, None, All, refl, sym, ap, ◌∙◌, subst, arith, append-nil, eq-eqb, ne_eqb}
 use mathlib.Core.Option.{some}
 use lib.ListN.{get_elem?}
 use native.Mathlib.Decide.{ℕ_discrete}
@@ -22,6 +22,7 @@ use Rattle.step_core.specs.declared.views.Known.{Known}
 use Rattle.step_core.specs.declared.views.PassView.{PassView}
 use Rattle.step_core.specs.declared.views.RoundFacts.{RoundFacts}
 use Rattle.step_core.proofs.changes.Named.{stays, filled_stays, result_stays, cell_cases}
+use Rattle.step_core.proofs.changes.Held.{content_same, ops_keep}
 use Rattle.step_core.proofs.lists.Histories.{keys_after-push}
 use Rattle.cells.specs.Exchanges.{swap_change, entry_by, MaySwapRow, SwapsRow}
 use Rattle.cells.specs.Invariant.{HoldsRound, IsFilled}
@@ -33,6 +34,7 @@ use Rattle.cells.specs.Past.{decided_entry, entries_by, flying_entry}
 use Rattle.cells.proofs.keeps.LoseSwap.{lost_moved}
 use Rattle.cells.proofs.laws.Entries.{entries_by-own, entries_by-other}
 use Rattle.cells.proofs.laws.Given.{given_published}
+use Rattle.cells.proofs.laws.Hindsight.{KeepsStanding, hindsight_keeps}
 use Rattle.cells.proofs.laws.Lone.{generation_in-stays, is_untouched-same, table_stays}
 use Rattle.cells.proofs.laws.LoneRound.{lone_front}
 use Rattle.cells.proofs.parts.PutState.{Sees, sum_by-put, there_inside, each_sees, put_state}
@@ -83,6 +85,20 @@ module _ {facts : RoundFacts} {words : List ℕ} {state : RoundState} {history :
   flying None = refl
   flying (Some from) = decided from (state.blocks from) refl
 
+  -- what stood has stood
+  standing : KeepsStanding facts.keys state.blocks state.cells history (after s).blocks (after s).cells (new_history s)
+  standing = record {
+    rows = λ from other here. stays (names s) from (Row other) here;
+    generations = λ from other here. stays (names s) from (Generation other) here;
+    contents = λ from other key here. content_same (ops_keep (names s)) other key;
+    grows = (entry s ∷ [], refl);
+    frozen = λ from generation bucket here within odd. ⊎_elim
+        (λ (touched : (from ≡ s.may.turn.head) × (bucket ≡ s.may.bucket) × ((after s).cells from bucket ≡ mutable_word s.at)).
+        let is = touched.2 in absurd (omega arith))
+        (λ (kept : (after s).cells from bucket ≡ state.cells from bucket). inl kept)
+        (cell_cases (names s) from bucket);
+  }
+
   -- what the views owe before and after
   abbrev Before : ℕ → PassView → Type 0
   Before = Sees facts state.head state.blocks state.cells history (wins_of state.views)
@@ -119,7 +135,7 @@ module _ {facts : RoundFacts} {words : List ℕ} {state : RoundState} {history :
           there_inside state.views s.old.number s.old s.there,
           s.round.fits.passes,
         ));
-        no_mark = sees.no_mark;
+        hindsight = hindsight_keeps standing pass view sees.hindsight;
         given = sees.given;
       }
 
@@ -203,7 +219,9 @@ module _ {facts : RoundFacts} {words : List ℕ} {state : RoundState} {history :
         paid = record { lost = omega (arith, wins_more, was.paid.lost); turn = λ turn is. absurd (cc) };
         alone = λ alone. table_stays s.old (new_view s) refl (same_generation alone) (same_untouched alone)
             state.head (after s).blocks (after s).cells refl (table alone);
-        no_mark = was.no_mark;
+        hindsight =
+            let noted = hindsight_keeps standing s.old.number s.old was.hindsight in
+            record { marks = noted.marks; heads = noted.heads; nils = noted.nils };
         given = given_published facts.keys (new_history s) (after s).blocks (known_block s.at (Row (row s)) ∷ s.old.known)
             (stands s).given row_known;
       }

@@ -117,7 +117,6 @@ fresh_sound facts number small lt = record {
   so_far = record {
     first = λ at generation knows. absurd (omega (arith, knows.1));
     no_op = λ at row knows. absurd (omega (arith, knows.1));
-    no_mark = refl;
     given = λ at row knows. absurd (omega (arith, knows.1));
   };
 }

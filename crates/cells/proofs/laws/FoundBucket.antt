@@ -1,5 +1,5 @@
 -- The word of a bucket of a known generation: where it stands, which row it names, and that the row has what the history leaves.
-use Rattle.std.proofs.Common.{◌≡◌, ℕ, List, [], ◌∷◌, get_or, Bool, true, ◌&&◌, ◌||◌, not, nat_eq, ◌⊎◌, inl, inr, ⊎_elim, Some, All, sym, ap, ap₂, ◌∙◌, subst}
+use Rattle.std.proofs.Common.{◌≡◌, ℕ, List, [], ◌∷◌, get_or, Bool, true, ◌&&◌, ◌||◌, not, nat_eq, ◌⊎◌, inl, inr, ⊎_elim, Some, All, sym, ap, ap₂, ◌∙◌, subst, arith}
 use mathlib.Core.Option.{some}
 use lib.ListN.{get_elem?}
 use Rattle.std.proofs.lemmas.Bool.{cases_Bool}
@@ -20,11 +20,12 @@ use Rattle.step_core.specs.declared.views.PassView.{PassView}
 use Rattle.step_core.specs.declared.views.RoundFacts.{RoundFacts}
 use Rattle.step_core.proofs.seen.Held.{live_even, is_held-row, row_content-plain}
 use Rattle.cells.specs.Invariant.{HoldsRound, IsFilled}
-use Rattle.cells.specs.Known.{known_block, IsBucketWord}
+use Rattle.cells.specs.Known.{known_block, IsBucketWord, KnowsGeneration}
 use Rattle.cells.specs.Lone.{head_at, head_generation, is_among, is_untouched}
 use Rattle.cells.specs.SoFar.{NamesMutableRow}
 use Rattle.cells.specs.Steps.{AgreesWithHistory}
 use Rattle.cells.proofs.laws.Paid.{both_true, same_numbers}
+use Rattle.cells.proofs.laws.Sound.{sound_view}
 
 -- a bucket that is among those that are filled is
 among_filled : (cells : ℕ → ℕ → ℕ) (filled : List FilledBucket) (at bucket : ℕ) → All (IsFilled cells) filled
@@ -87,6 +88,17 @@ module _ {facts : RoundFacts} {words : List ℕ} {state : RoundState} {history :
       (λ (first : generation.predecessor ≡ 0). subst (λ (w : ℕ). ¬ IsNil w) spot_is
       (round.fits.holds.chain.filled at generation bucket published (inr first)))
       reason
+
+  -- a bucket of a generation that another is known to follow isn't nil
+  pub finds_followed : (later : ℕ) (newer : GenerationBlock) → KnowsGeneration old later newer → newer.predecessor ≡ at → ¬ IsNil word
+  finds_followed later newer known behind =
+      let low = ((sound_view round old.number old there).blocks at (Generation generation) is.known).behind_base in
+      let follows = round.fits.holds.chain.follows later newer
+      (All-contains (IsPublished state.blocks) old.known (known_block later (Generation newer))
+      (round.fits.known old.number old there) known)
+      (λ none. let at_none : at ≡ 0 = sym behind ∙ none in absurd (omega (arith, low, at_none))) in
+      subst (λ (w : ℕ). ¬ IsNil w) spot_is
+      (round.fits.holds.chain.filled at generation bucket published (inl (λ same. follows.not_head (behind ∙ same))))
 
   -- so far it is a bucket of the only generation, so it names a mutable row
   pub names_row : NamesMutableRow word

@@ -1,5 +1,5 @@
 -- What the loads of the head and of a sealed word leave and tell, by fields of the view.
-use Rattle.std.proofs.Common.{◌≡◌, ◌≢◌, ℕ, List, [], ◌∷◌, ◌++◌, Some, inl, inr, refl, sym, ap, ap₂, ◌∙◌, subst}
+use Rattle.std.proofs.Common.{◌≡◌, ◌≢◌, ℕ, List, [], ◌∷◌, ◌++◌, Some, inl, inr, refl, sym, ap, ◌∙◌, subst}
 use mathlib.Core.List.{IsPrefix}
 use Rattle.set_model.specs.declared.entry.Entry.{Entry}
 use Rattle.step_core.specs.declared.published.Published.{Published}
@@ -58,8 +58,8 @@ module _ (place : ℕ) (old : PassView) (word : ℕ) (new : PassView) (loads : L
   pub load_sealed_still : (at k : ℕ) (block : Published) → IsSealedWord old place at k block → k ≢ 1 → new ≡ after_reads 1 old
   load_sealed_still at k block sealed apart =
       loads.view
-      ∙ ap₂ (λ (learned : List Known) (front : List Entry). view_after_load_sealed learned front old)
-      (loads.nothing at k block sealed (inl apart)) (loads.stays at k block sealed (inl apart))
+      ∙ (λ i. view_after_load_sealed (loads.nothing at k block sealed (inl apart) i) ((loads.stays at k block sealed (inl apart)).0 i)
+      ((loads.stays at k block sealed (inl apart)).1 i) old)
 
   -- A second word that names nothing leaves all but the front as it was.
   pub load_sealed_names_nothing : (at : ℕ) (block : Published) → IsSealedWord old place at 1 block → link_of block ≡ 0

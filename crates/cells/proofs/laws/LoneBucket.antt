@@ -12,6 +12,7 @@ use Rattle.step_core.specs.declared.published.Published.TheVariants.{Generation,
 use Rattle.step_core.specs.declared.published.GenerationBlock.{GenerationBlock}
 use Rattle.step_core.specs.declared.published.RowBlock.{RowBlock}
 use Rattle.step_core.specs.declared.views.FilledBucket.{FilledBucket}
+use Rattle.step_core.specs.declared.views.Mark.{Mark}
 use Rattle.step_core.specs.declared.views.PassView.{PassView}
 use Rattle.cells.specs.Known.{known_block, generation_at, bucket_at}
 use Rattle.cells.specs.Lone.{head_at, generation_in, first_generation, head_generation, is_among, is_untouched, KnowsTable}
@@ -43,10 +44,10 @@ module _ (head : ℕ) (blocks : ℕ → Option Published) (cells : ℕ → ℕ �
     | inr touched ↦ touched
   ]
 
-  module _ (history : List Entry) (row : RowBlock) (named : ¬ IsNil word → IsRow blocks (row_address word) row) where
+  module _ (history : List Entry) (row : RowBlock) (marks : List Mark) (named : ¬ IsNil word → IsRow blocks (row_address word) row) where
     -- the view after the load
     abbrev new : PassView
-    new = view_after_load_bucket place word history row old
+    new = view_after_load_bucket place word history row marks old
 
     -- it finds the head's generation still
     pub bucket_generation : head_generation new ≡ head_generation old

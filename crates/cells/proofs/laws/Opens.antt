@@ -29,7 +29,8 @@ use Rattle.cells.specs.Lone.{KnowsAlone, first_generation}
 use Rattle.cells.specs.Modeled.{IsRound}
 use Rattle.cells.specs.Paid.{wins_of, IsPaid}
 use Rattle.cells.specs.Past.{HoldsHistory, BeginsHistory, OwnsEntries, IsOfPasses, UsesSerials, HasGivenKeys}
-use Rattle.cells.specs.SoFar.{HasNoMark, HasOneGeneration, IsGivenBlock, KnowsGiven}
+use Rattle.cells.specs.Hindsight.{HasStood, StoodInHead, StoodInSources, HasHindsight}
+use Rattle.cells.specs.SoFar.{HasOneGeneration, IsGivenBlock, KnowsGiven}
 use Rattle.cells.specs.Sound.{AreFacts}
 use Rattle.cells.specs.Seats.{IsRuled, IsSeat, AreSeated, SpeaksFor, facts_of, first_seat}
 use Rattle.cells.specs.declared.round.Round.TheInside as round
@@ -139,7 +140,6 @@ module _ (seats cap : ℕ) (keys : List ℕ) (rising : IsStrictlyIncreasing keys
     only = each_generation is_table (λ at generation. at ≡ state.head) refl;
     first = each_generation is_table (λ at generation. generation.predecessor ≡ 0) refl;
     no_op = λ at op there. each_block is_table (λ at block. block ≡ Op op → ⊥) (λ e. cc) (λ bucket low e. cc) at (Op op) there refl;
-    no_mark = each_fresh HasNoMark facts (λ pass. refl);
     given = each_fresh (KnowsGiven keys) facts (λ pass. All-nil (IsGivenBlock keys []));
   }
 
@@ -156,6 +156,11 @@ module _ (seats cap : ℕ) (keys : List ℕ) (rising : IsStrictlyIncreasing keys
       turn = λ turn there. cc;
     });
     filled = each_fresh (KnowsFilled state.cells) facts (λ pass. All-nil (IsFilled state.cells));
+    hindsight = each_fresh (HasHindsight keys state.blocks state.cells []) facts (λ pass. record {
+      marks = All-nil (HasStood keys state.blocks state.cells []);
+      heads = All-nil (StoodInHead keys state.blocks state.cells []);
+      nils = All-nil (StoodInSources keys state.blocks state.cells []);
+    });
     members = opening_held seats cap keys rising few fits;
     alone = each_fresh (KnowsAlone facts state.head state.blocks state.cells) facts (λ pass alone. record {
       head_is = refl;

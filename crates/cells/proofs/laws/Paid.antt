@@ -9,6 +9,7 @@ use Rattle.step_core.specs.declared.published.GenerationBlock.{GenerationBlock}
 use Rattle.step_core.specs.declared.published.RowBlock.{RowBlock}
 use Rattle.step_core.specs.declared.views.BucketLoad.{BucketLoad}
 use Rattle.step_core.specs.declared.views.OpenTurn.{OpenTurn}
+use Rattle.step_core.specs.declared.views.Mark.{Mark}
 use Rattle.step_core.specs.declared.views.PassView.{PassView}
 use Rattle.cells.specs.Known.{generation_at, bucket_at}
 use Rattle.cells.specs.Paid.{PaysLoad, IsPaidTurn, IsPaid}
@@ -118,6 +119,7 @@ module _ (wins head : ℕ) (cells : ℕ → ℕ → ℕ) (old : PassView) (paid 
       (cases_Bool (loses_turn old place word (Some turn)))
 
   -- A load of a bucket keeps what is paid, where the word is that of the cell and no bucket of the head is frozen.
-  pub paid_load_bucket : (history : List Entry) (row : RowBlock)
-      → IsPaid wins head cells (view_after_load_bucket place word history row old)
-  paid_load_bucket history row = paid_after (view_after_load_bucket place word history row old) old.turn refl refl refl refl
+  pub paid_load_bucket : (history : List Entry) (row : RowBlock) (marks : List Mark)
+      → IsPaid wins head cells (view_after_load_bucket place word history row marks old)
+  paid_load_bucket history row marks =
+      paid_after (view_after_load_bucket place word history row marks old) old.turn refl refl refl refl

@@ -129,7 +129,6 @@ module _ {facts : RoundFacts} {words : List ℕ} {state : RoundState} {history :
   one_generation = record {
     first = λ at generation known. round.so_far.first at generation (is_published at (Generation generation) known);
     no_op = row_plain;
-    no_mark = round.so_far.no_mark number view is_view;
     given = λ at row known. subst (λ (facts : RoundFacts). HasGivenKeys facts.keys view.front row) (sym same_round)
         (All-contains (IsGivenBlock facts.keys view.front) view.known (known_block at (Row row))
         (round.so_far.given number view is_view) known row refl);

@@ -21,7 +21,8 @@ use Rattle.cells.specs.Invariant.{HoldsRound, KnowsFilled}
 use Rattle.cells.specs.Lone.{KnowsAlone}
 use Rattle.cells.specs.Paid.{IsPaid, wins_of}
 use Rattle.cells.specs.Past.{BeginsHistory, IsSeenWhole, OwnsEntries, IsOfPasses, IsInOrder, UsesSerials, HasGivenKeys}
-use Rattle.cells.specs.SoFar.{HasNoMark, KnowsGiven}
+use Rattle.cells.specs.Hindsight.{HasHindsight}
+use Rattle.cells.specs.SoFar.{KnowsGiven}
 
 -- what stands at a place of a list stands inside it
 pub there_inside : {A : Type 0} (list : List A) (place : ℕ) (item : A) → get_elem? list place ≡ some item → place < length list
@@ -76,7 +77,7 @@ pub record Sees (facts : RoundFacts) (head : ℕ) (blocks : ℕ → Option Publi
   pub used : UsesSerials history pass view
   pub paid : IsPaid wins head cells view
   pub alone : KnowsAlone facts head blocks cells pass view
-  pub no_mark : HasNoMark pass view
+  pub hindsight : HasHindsight facts.keys blocks cells history pass view
   pub given : KnowsGiven facts.keys pass view
 
 -- what the invariant says of the words, the published blocks, their cells and the history, without any view
@@ -105,7 +106,7 @@ each_sees round pass view there = record {
   used = round.past.used pass view there;
   paid = round.paid pass view there;
   alone = round.alone pass view there;
-  no_mark = round.so_far.no_mark pass view there;
+  hindsight = round.hindsight pass view there;
   given = round.so_far.given pass view there;
 }
 
@@ -154,12 +155,12 @@ module _ {facts : RoundFacts} {words : List ℕ} {state : RoundState} {history :
       members = stands.members;
       paid = λ pass view is. (each_sees_after pass view is).paid;
       filled = λ pass view is. (each_sees_after pass view is).filled;
+      hindsight = λ pass view is. (each_sees_after pass view is).hindsight;
       alone = λ pass view is. (each_sees_after pass view is).alone;
       so_far = record {
         only = stands.only;
         first = stands.first;
         no_op = stands.no_op;
-        no_mark = λ pass view is. (each_sees_after pass view is).no_mark;
         given = λ pass view is. (each_sees_after pass view is).given;
       };
     }

@@ -19,7 +19,8 @@ use Rattle.cells.specs.Lone.{KnowsAlone}
 use Rattle.cells.specs.Moves.{Moved}
 use Rattle.cells.specs.Paid.{IsPaid, wins_of}
 use Rattle.cells.specs.Past.{IsSeenWhole, UsesSerials, flying_entry}
-use Rattle.cells.specs.SoFar.{HasNoMark, KnowsGiven}
+use Rattle.cells.specs.Hindsight.{HasHindsight}
+use Rattle.cells.specs.SoFar.{KnowsGiven}
 use Rattle.cells.proofs.parts.PutState.{Sees, Stands, there_inside, each_put, sum_by-put_same, each_sees, put_state}
 
 -- a front that reaches no less far than one that is the whole history is the whole history
@@ -44,7 +45,7 @@ pub record Goes (facts : RoundFacts) (head : ℕ) (blocks : ℕ → Option Publi
   pub won : new.won ≡ old.won
   pub paid : IsPaid wins head cells new
   pub alone : KnowsAlone facts head blocks cells old.number new
-  pub no_mark : HasNoMark old.number new
+  pub hindsight : HasHindsight facts.keys blocks cells history old.number new
   pub given : KnowsGiven facts.keys old.number new
 
 -- what the invariant says without a view
@@ -123,7 +124,7 @@ module _ {facts : RoundFacts} {words : List ℕ} {state : RoundState} {history :
         used = subst (λ (used : ℕ). UsesSerials history old.number (record old { used = used })) (sym goes.used) was.used;
         paid = goes.paid;
         alone = goes.alone;
-        no_mark = goes.no_mark;
+        hindsight = goes.hindsight;
         given = goes.given;
       }
 

@@ -3,29 +3,30 @@ use Rattle.std.proofs.Common.{◌≡◌, ℕ, ◌+◌, ◌^◌, ◌<◌, ◌≤�
 use Rattle.std.proofs.Math.Nat.{mod-lt}
 use Rattle.std.proofs.lemmas.Nat.{pow_pos}
 use Rattle.std.specs.List.{Contains}
-use Rattle.set_model.specs.History.{members_after}
-use Rattle.set_model.specs.Keys.{is_in}
 use Rattle.step_core.specs.Buckets.{key_bucket}
 use Rattle.step_core.specs.Content.{InClass, spot_of}
 use Rattle.step_core.specs.Format.{row_address}
 use Rattle.step_core.specs.declared.format.TheConstants.{FIRST_BUCKET}
 use Rattle.step_core.specs.declared.published.Published.TheVariants.{Generation, Row}
+use Rattle.step_core.specs.declared.published.GenerationBlock.{GenerationBlock}
 use Rattle.step_core.specs.declared.views.BucketLoad.{BucketLoad}
 use Rattle.step_core.specs.declared.views.OpenTurn.{OpenTurn}
 use Rattle.step_core.specs.declared.views.PassView.{PassView}
 use Rattle.cells.specs.Exchanges.{load_of}
 use Rattle.cells.specs.Frames.{after_reads}
 use Rattle.cells.specs.Known.{known_block, IsBucketWord, KnowsBucket, KnowsGeneration}
+use Rattle.cells.specs.Marks.{IsMarkedFor}
 use Rattle.cells.specs.Sound.{IsSound}
 use Rattle.cells.specs.Steps.{LoadsBucket, LoadsHead, LoadsSealed}
-use Rattle.cells.proofs.laws.BucketLoads.{load_bucket_among, load_bucket_learned, load_bucket_grows, load_bucket_lost_none, load_bucket_mutable}
+use Rattle.cells.proofs.laws.BucketLoads.{load_bucket_among, load_bucket_learned, load_bucket_grows, load_bucket_lost_none}
+use Rattle.cells.proofs.laws.Counted.{sound_counted}
 use Rattle.cells.proofs.laws.HeadLoads.{load_head_knows, load_head_turn, load_sealed_still}
 use Rattle.cells.proofs.laws.Known.{knows_more}
 use Rattle.cells.proofs.laws.Sealed.{exponent_word}
 use Rattle.cells.proofs.laws.Within.{generation_within}
-use Rattle.fset.specs.Content.{front_has}
 use Rattle.fset.specs.Frames.{Grows, KeepsOwn}
-use Rattle.fset.specs.Seeking.{HasKeyBucket, LoadsKeyBucket}
+use Rattle.fset.specs.Seeking.{HasKeyBucket, LoadsBucketOf, LoadsKeyBucket}
+use Rattle.fset.specs.declared.seeking.LoadedBucket.{LoadedBucket}
 use Rattle.fset.proofs.laws.Frames.{behind_self, grows_then, own_then, reads_grow, reads_own}
 
 -- A load of the head grows the view by the head's generation.
@@ -70,111 +71,131 @@ bucket_grows place old word new loads = (
 pub key_bucket_small : (exponent key : ℕ) → key_bucket exponent key < 2 ^ exponent
 key_bucket_small exponent key = mod-lt (spot_of key) (pow_pos exponent)
 
-module _ (v0 v1 v2 : PassView) (head exponent : ℕ) (heads : LoadsHead v0 head v1) (reads : LoadsSealed head v1 exponent v2) where
-  -- the load of the exponent tells nothing new
-  still : v2 ≡ after_reads 1 v1
-  still = load_sealed_still head v1 exponent v2 reads head 0 (Generation heads.generation)
-      (record { known = load_head_knows v0 head v1 heads; sealed = omega arith; here = omega arith }) (λ e. absurd (omega (arith, e)))
+module _ (v1 v2 : PassView) (at exponent : ℕ) (generation : GenerationBlock) (known : KnowsGeneration v1 at generation)
+    (reads : LoadsSealed at v1 exponent v2) where
+  -- The load of a generation's exponent tells nothing new.
+  pub exponent_still : v2 ≡ after_reads 1 v1
+  exponent_still = load_sealed_still at v1 exponent v2 reads at 0 (Generation generation)
+      (record { known = known; sealed = omega arith; here = omega arith }) (λ e. absurd (omega (arith, e)))
 
-  head_known : KnowsGeneration v2 head heads.generation
-  head_known = subst (λ (view : PassView). KnowsGeneration view head heads.generation) (sym still) (load_head_knows v0 head v1 heads)
+  still_known : KnowsGeneration v2 at generation
+  still_known = subst (λ (view : PassView). KnowsGeneration view at generation) (sym exponent_still) known
 
-  -- The word is the head's exponent,
-  pub exponent_is : exponent ≡ heads.generation.exponent
-  exponent_is = exponent_word v1 head heads.generation (load_head_knows v0 head v1 heads) exponent reads.reads
+  -- The word is the exponent,
+  exponent_is : exponent ≡ generation.exponent
+  exponent_is = exponent_word v1 at generation known exponent reads.reads
 
-  -- which is at most 24, and the head with its buckets lies in the arena.
-  pub head_within : IsSound v2 → (head + FIRST_BUCKET + 2 ^ exponent ≤ 2 ^ 28) × (exponent ≤ 24)
-  head_within sound =
-      let inside = generation_within v2 sound head heads.generation head_known in
-      let size : 2 ^ exponent ≡ 2 ^ heads.generation.exponent = ap (λ (e : ℕ). 2 ^ e) exponent_is in
+  -- which is at most 24, and the generation with its buckets lies in the arena.
+  pub buckets_within : IsSound v2 → (at + FIRST_BUCKET + 2 ^ exponent ≤ 2 ^ 28) × (exponent ≤ 24)
+  buckets_within sound =
+      let inside = generation_within v2 sound at generation still_known in
+      let size : 2 ^ exponent ≡ 2 ^ generation.exponent = ap (λ (e : ℕ). 2 ^ e) exponent_is in
       (omega (arith, inside.0.small, size), omega (arith, inside.1, exponent_is))
 
-  module _ (key place : ℕ) (here : place ≡ head + FIRST_BUCKET + key_bucket exponent key) where
+  module _ (key place : ℕ) (here : place ≡ at + FIRST_BUCKET + key_bucket exponent key) where
     -- The place is the word of the key's bucket.
-    pub key_bucket_word : IsBucketWord v2 place head (key_bucket heads.generation.exponent key) heads.generation
+    key_bucket_word : IsBucketWord v2 place at (key_bucket generation.exponent key) generation
     key_bucket_word = record {
-      known = head_known;
-      within = key_bucket_small heads.generation.exponent key;
-      here = here ∙ ap (λ (e : ℕ). head + FIRST_BUCKET + key_bucket e key) exponent_is;
+      known = still_known;
+      within = key_bucket_small generation.exponent key;
+      here = here ∙ ap (λ (e : ℕ). at + FIRST_BUCKET + key_bucket e key) exponent_is;
     }
 
-    -- So it may be loaded.
+    -- So it may be loaded,
     pub knows_key_bucket : KnowsBucket v2 place
-    knows_key_bucket = (head, key_bucket heads.generation.exponent key, heads.generation, key_bucket_word)
+    knows_key_bucket = (at, key_bucket generation.exponent key, generation, key_bucket_word)
 
-    module _ (v3 : PassView) (word : ℕ) (sound : IsSound v2) (loads : LoadsBucket place v2 word v3) where
-      turn_open : v2.turn ≡ Some (record { head = head; seen = heads.seen; loads = [] })
-      turn_open = ap (λ (view : PassView). view.turn) still ∙ load_head_turn v0 head v1 heads
+    -- and is then the bucket of the key.
+    pub bucket_loaded : (word : ℕ) (v3 : PassView) → LoadsBucket place v2 word v3
+        → LoadsBucketOf at key v1 (record { place = place; word = word }) v3
+    bucket_loaded word v3 loads = record {
+      generation = generation;
+      is_word = subst (λ (view : PassView). IsBucketWord view place at (key_bucket generation.exponent key) generation)
+          exponent_still key_bucket_word;
+      loads = subst (λ (view : PassView). LoadsBucket place view word v3) exponent_still loads;
+    }
 
-      -- the open turn has the load
-      among : (now : OpenTurn) × (v3.turn ≡ Some now) × (now.head ≡ head) × (now.seen ≡ heads.seen)
-          × (now.loads ≡ load_of head (key_bucket heads.generation.exponent key) word ∷ [])
-      among = load_bucket_among place v2 word v3 loads (record { head = head; seen = heads.seen; loads = [] }) turn_open head
-          (key_bucket heads.generation.exponent key) heads.generation sound key_bucket_word loads.so_far.mutable
+module _ (head key : ℕ) (v0 v1 v2 : PassView) (bucket : LoadedBucket) (heads : LoadsHead v0 head v1) (of : LoadsBucketOf head key v1 bucket v2)
+    (sound : IsSound v1) where
+  -- the view before the load of the bucket
+  abbrev between : PassView
+  between = after_reads 1 v1
 
-      grown : Grows (known_block (row_address word) (Row loads.row) ∷ known_block head (Generation heads.generation) ∷ []) 0 0 v0 v3
-      grown =
-          let first = head_grows v0 head v1 heads in
-          let second = subst (Grows [] 0 0 v1) (sym still) (reads_grow 1 v1) in
-          let third = bucket_grows place v2 word v3 loads in
-          let both = grows_then (known_block head (Generation heads.generation) ∷ []) [] 0 0 0 0 v0 v1 v2 first.0 second in
-          grows_then (known_block head (Generation heads.generation) ∷ []) (known_block (row_address word) (Row loads.row) ∷ []) 0 0 0 0
-          v0 v2 v3 both third.0
+  abbrev loads : LoadsBucket bucket.place between bucket.word v2
+  loads = of.loads
 
-      own : KeepsOwn v0 v3
-      own = own_then v0 v2 v3 (own_then v0 v1 v2 (head_grows v0 head v1 heads).1 (subst (KeepsOwn v1) (sym still) (reads_own 1 v1)))
-          (bucket_grows place v2 word v3 loads).1
+  abbrev place : ℕ
+  place = bucket.place
 
-      loaded : HasKeyBucket v3 key place word
-      loaded = record {
-        turn = among.0;
-        is_turn = among.1;
-        generation = heads.generation;
-        is_word = record {
-          known = subst (λ (h : ℕ). KnowsGeneration v3 h heads.generation) (sym among.2)
-              (knows_more (known_block (row_address word) (Row loads.row) ∷ []) v2 v3
-              (load_bucket_learned place v2 word v3 loads loads.so_far.some_row) head (Generation heads.generation) head_known);
-          within = key_bucket_word.within;
-          here = key_bucket_word.here ∙ ap (λ (h : ℕ). h + FIRST_BUCKET + key_bucket heads.generation.exponent key) (sym among.2);
-        };
-        loaded = subst (λ (z : List BucketLoad × ℕ). Contains z.0 (load_of z.1 (key_bucket heads.generation.exponent key) word))
-            (λ i. (sym among.4 i, sym among.2 i)) (0, omega arith, refl);
-        some_row = loads.so_far.some_row;
-        mutable = loads.so_far.mutable;
-      }
+  abbrev word : ℕ
+  word = bucket.word
 
-      -- the row is of the key's class
-      home : InClass loads.row.exponent loads.row.bucket key
-      home =
-          let at_home = loads.home head (key_bucket heads.generation.exponent key) heads.generation key_bucket_word loads.so_far.some_row in
-          ap (λ (e : ℕ). key_bucket e key) at_home.0 ∙ sym at_home.1
+  turn_open : v1.turn ≡ Some (record { head = head; seen = heads.seen; loads = [] })
+  turn_open = load_head_turn v0 head v1 heads
 
-      agrees : loads.row.op ≡ 0 → is_in loads.row.keys key ≡ front_has v3 key
-      agrees plain =
-          loads.agrees loads.so_far.some_row loads.so_far.mutable plain key home
-          ∙ (λ i. members_after (is_in (sym (ap (λ (view : PassView). view.facts) loads.view) i).keys)
-          (sym (load_bucket_mutable place v2 word v3 loads loads.so_far.mutable) i) key)
+  -- the open turn has the load
+  among : (now : OpenTurn) × (v2.turn ≡ Some now) × (now.head ≡ head) × (now.seen ≡ heads.seen)
+      × (now.loads ≡ load_of head (key_bucket of.generation.exponent key) word ∷ [])
+  among = load_bucket_among place between word v2 loads (record { head = head; seen = heads.seen; loads = [] }) turn_open head
+      (key_bucket of.generation.exponent key) of.generation (sound_counted v1 (after_reads 1 v1).made sound) of.is_word loads.so_far.mutable
 
-      -- The key's bucket is loaded.
-      pub key_bucket_loaded : LoadsKeyBucket key v0 (record { place = place; word = word }) v3
-      key_bucket_loaded = record {
-        head = head;
-        generation = heads.generation;
-        row = loads.row;
-        grows = grown;
-        own = own;
-        loaded = loaded;
-        home = home;
-        agrees = agrees;
-        spent = ap (λ (view : PassView). view.spent) loads.view ∙ ap (λ (view : PassView). view.spent) still
-            ∙ ap (λ (view : PassView). view.spent) heads.view;
-        hands = ap (λ (view : PassView). view.hands) loads.view ∙ ap (λ (view : PassView). view.hands) still
-            ∙ ap (λ (view : PassView). view.hands) heads.view;
-        made = ap (λ (view : PassView). view.made) loads.view
-            ∙ ap (λ (view : PassView). record view.made { bucket_loads = view.made.bucket_loads + 1 }) still
-            ∙ ap (λ (view : PassView). record view.made {
-              sealed_loads = view.made.sealed_loads + 1;
-              bucket_loads = view.made.bucket_loads + 1;
-            }) heads.view;
-      }
+  grown : Grows (known_block (row_address word) (Row loads.row) ∷ known_block head (Generation heads.generation) ∷ []) 0 0 v0 v2
+  grown =
+      let first = head_grows v0 head v1 heads in
+      let third = bucket_grows place between word v2 loads in
+      let both = grows_then (known_block head (Generation heads.generation) ∷ []) [] 0 0 0 0 v0 v1 between first.0 (reads_grow 1 v1) in
+      grows_then (known_block head (Generation heads.generation) ∷ []) (known_block (row_address word) (Row loads.row) ∷ []) 0 0 0 0
+      v0 between v2 both third.0
+
+  own : KeepsOwn v0 v2
+  own = own_then v0 between v2 (own_then v0 v1 between (head_grows v0 head v1 heads).1 (reads_own 1 v1))
+      (bucket_grows place between word v2 loads).1
+
+  loaded : HasKeyBucket v2 key place word
+  loaded = record {
+    turn = among.0;
+    is_turn = among.1;
+    generation = of.generation;
+    is_word = record {
+      known = subst (λ (h : ℕ). KnowsGeneration v2 h of.generation) (sym among.2)
+          (knows_more (known_block (row_address word) (Row loads.row) ∷ []) between v2
+          (load_bucket_learned place between word v2 loads loads.so_far.some_row) head (Generation of.generation) of.is_word.known);
+      within = of.is_word.within;
+      here = of.is_word.here ∙ ap (λ (h : ℕ). h + FIRST_BUCKET + key_bucket of.generation.exponent key) (sym among.2);
+    };
+    loaded = subst (λ (z : List BucketLoad × ℕ). Contains z.0 (load_of z.1 (key_bucket of.generation.exponent key) word))
+        (λ i. (sym among.4 i, sym among.2 i)) (0, omega arith, refl);
+    some_row = loads.so_far.some_row;
+    mutable = loads.so_far.mutable;
+  }
+
+  -- the row is of the key's class
+  home : InClass loads.row.exponent loads.row.bucket key
+  home =
+      let at_home = loads.home head (key_bucket of.generation.exponent key) of.generation of.is_word loads.so_far.some_row in
+      ap (λ (e : ℕ). key_bucket e key) at_home.0 ∙ sym at_home.1
+
+  -- and is marked for it
+  marked : IsMarkedFor v2 (row_address word) key
+  marked = loads.marked.mutable head (key_bucket of.generation.exponent key) of.generation of.is_word
+      loads.so_far.some_row loads.so_far.mutable key refl
+
+  -- The key's bucket is loaded.
+  pub key_bucket_loaded : LoadsKeyBucket key v0 bucket v2
+  key_bucket_loaded = record {
+    head = head;
+    generation = heads.generation;
+    row = loads.row;
+    grows = grown;
+    own = own;
+    loaded = loaded;
+    home = home;
+    marked = marked;
+    spent = ap (λ (view : PassView). view.spent) loads.view ∙ ap (λ (view : PassView). view.spent) heads.view;
+    hands = ap (λ (view : PassView). view.hands) loads.view ∙ ap (λ (view : PassView). view.hands) heads.view;
+    made = ap (λ (view : PassView). view.made) loads.view
+        ∙ ap (λ (view : PassView). record view.made {
+          sealed_loads = view.made.sealed_loads + 1;
+          bucket_loads = view.made.bucket_loads + 1;
+        }) heads.view;
+  }

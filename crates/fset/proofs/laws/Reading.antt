@@ -14,7 +14,7 @@ use Rattle.cells.specs.Exchanges.{list_with_op}
 use Rattle.cells.specs.Frames.{OnlyReads, after_reads}
 use Rattle.cells.specs.Known.{known_block, KnowsRow, block_at, row_at, keys_at}
 use Rattle.cells.specs.Sound.{IsSound}
-use Rattle.cells.specs.Steps.{LoadsSealed}
+use Rattle.cells.specs.Steps.{AgreesAtFront, LoadsSealed}
 use Rattle.cells.proofs.laws.Known.{row_stays}
 use Rattle.cells.proofs.laws.HeadLoads.{load_sealed_known, load_sealed_still}
 use Rattle.cells.proofs.laws.Sealed.{row_count, row_op}
@@ -136,8 +136,10 @@ module _ (at : ℕ) (old : PassView) (known : KnowsRowAt old at) (word : ℕ) (n
             let learns = loads.op at row (record { known = known; sealed = omega arith; here = refl }) (λ zero. some_op (is_op ∙ zero)) in
             (learns.0, learns.1 ∙ ap (λ (a : ℕ). known_block a (Op learns.0) ∷ []) (sym is_op));
         unread = refl;
-        unmarked = λ none. ap (λ (view : PassView). view.front) loads.view
-            ∙ loads.stays at 1 (Row row) (record { known = known; sealed = omega arith; here = refl }) (inr none);
+        marked = λ zero key mark.
+            let told = loads.agrees at row (record { known = known; sealed = omega arith; here = refl }) (sym is_op ∙ zero) key
+            (record { mark = mark.mark; others = mark.others; latest = mark.latest; row = mark.row; now = mark.now; of_key = mark.of_key }) in
+            (subst (λ (row : RowBlock). AgreesAtFront new row key) (sym stays.1) told.0, told.1);
       }
 
 -- Loading the first two words of a known row reads it.

@@ -1,19 +1,14 @@
 -- A key's bucket that was loaded, and then its row read, is sought; and a turn that loaded it goes on while it is open.
-use Rattle.std.proofs.Common.{◌≡◌, ◌≢◌, ℕ, ◌+◌, List, [], ◌∷◌, ◌++◌, All, refl, sym, ap, ◌∙◌, subst, arith}
-use Rattle.std.proofs.lemmas.List.Elements.{All-nil}
-use Rattle.set_model.specs.History.{members_after}
+use Rattle.std.proofs.Common.{◌≡◌, ℕ, ◌+◌, List, [], ◌∷◌, ◌++◌, refl, sym, ap, ◌∙◌, subst, arith}
 use Rattle.set_model.specs.Keys.{is_in}
 use Rattle.step_core.specs.Buckets.{key_bucket}
 use Rattle.step_core.specs.Format.{row_address}
 use Rattle.step_core.specs.declared.published.Published.TheVariants.{Generation, Row}
-use Rattle.step_core.specs.declared.published.RowBlock.{RowBlock}
 use Rattle.step_core.specs.declared.views.Known.{Known}
-use Rattle.step_core.specs.declared.views.Mark.{Mark}
 use Rattle.step_core.specs.declared.views.PassView.{PassView}
 use Rattle.step_core.specs.declared.views.StepCounts.{StepCounts}
 use Rattle.cells.specs.Known.{known_block, row_at, KnowsRow}
 use Rattle.cells.specs.Sound.{IsSound}
-use Rattle.cells.specs.Steps.{IsUnmarked}
 use Rattle.cells.proofs.laws.Known.{bucket_word_stays, knows_first, row_at-first}
 use Rattle.fset.specs.Content.{seen_content, front_has}
 use Rattle.fset.specs.Frames.{Grows, KeepsOwn}
@@ -86,9 +81,6 @@ module _ (key : ℕ) (v0 v1 v2 : PassView) (bucket : LoadedBucket) (seen : Seen)
   grown : Grows [] 0 0 v1 v2
   grown = subst (λ (learned : List Known). Grows learned 0 0 v1 v2) (reads.nothing plain) reads.reads.grows
 
-  unmarked : IsUnmarked v1 at
-  unmarked = subst (λ (marks : List Mark). All (λ (mark : Mark). mark.row ≢ at) marks) (sym sound.so_far.no_mark) (All-nil (λ (mark : Mark). mark.row ≢ at))
-
   same_row : row_at v2.known seen.at ≡ loads.row
   same_row = ap (row_at v2.known) reads.place ∙ reads.same ∙ found key v0 bucket v1 loads
 
@@ -96,9 +88,8 @@ module _ (key : ℕ) (v0 v1 v2 : PassView) (bucket : LoadedBucket) (seen : Seen)
   agrees : seen_content v2 seen key ≡ front_has v2 key
   agrees =
       seen_content-plain v2 seen key plain
-      ∙ ap (λ (row : RowBlock). is_in row.keys key) same_row
-      ∙ loads.agrees (sym (ap (λ (row : RowBlock). row.op) same_row) ∙ sym reads.agrees.op ∙ plain)
-      ∙ (λ i. members_after (is_in (sym grown.facts i).keys) (sym (reads.unmarked unmarked) i) key)
+      ∙ ap (λ (a : ℕ). is_in (row_at v2.known a).keys key) reads.place
+      ∙ (reads.marked plain key loads.marked).0
 
   -- The key's bucket and row are found.
   pub found_key : Seeks key v0 (record { place = bucket.place; word = bucket.word; row = seen }) v2

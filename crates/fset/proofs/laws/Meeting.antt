@@ -1,0 +1,308 @@
+-- A row that was met in the head, or behind a nil bucket in the generation before, is known and marked for the key.
+use Rattle.std.proofs.Common.{◌≡◌, ◌≢◌, ◌⊎◌, inl, inr, ⊎_elim, ℕ, ◌+◌, ◌%◌, ◌≤◌, List, [], ◌∷◌, ◌++◌, cond, Bool, Some, refl, sym, ap, ◌∙◌, subst, add-zero, arith}
+use mathlib.Core.List.{IsPrefix}
+use base.Growing.{prefix_refl}
+use Rattle.set_model.specs.declared.entry.Entry.{Entry}
+use Rattle.step_core.specs.Buckets.{key_bucket}
+use Rattle.step_core.specs.Format.{IsFrozen, IsMutable, IsNil, row_address}
+use Rattle.step_core.specs.declared.published.Published.TheVariants.{Generation, Row}
+use Rattle.step_core.specs.declared.published.GenerationBlock.{GenerationBlock}
+use Rattle.step_core.specs.declared.published.RowBlock.{RowBlock}
+use Rattle.step_core.specs.declared.views.Known.{Known}
+use Rattle.step_core.specs.declared.views.PassView.{PassView}
+use Rattle.step_core.specs.declared.views.StepCounts.{StepCounts}
+use Rattle.cells.specs.Frames.{after_reads}
+use Rattle.cells.specs.Known.{known_block, row_at, KnowsGeneration, KnowsRow, IsSealedWord}
+use Rattle.cells.specs.Marks.{IsHeadNow, IsMarkedFor, IsNilNow}
+use Rattle.cells.specs.Sound.{IsSound}
+use Rattle.cells.specs.Steps.{LoadsBucket, is_nil, nil_bucket}
+use Rattle.cells.proofs.laws.BucketLoads.{is_nil-nil, load_bucket_grows, load_bucket_knows, load_bucket_learned, load_bucket_lost, load_bucket_lost_none, load_bucket_mutable, load_bucket_nil, odd_or_even}
+use Rattle.cells.proofs.laws.Counted.{sound_counted}
+use Rattle.cells.proofs.laws.HeadLoads.{load_sealed_known, load_sealed_predecessor}
+use Rattle.cells.proofs.laws.Known.{generation_at-known, knows_more, row_at-first}
+use Rattle.cells.proofs.laws.Sealed.{predecessor_word}
+use Rattle.fset.specs.Frames.{Grows, KeepsOwn, latest_row}
+use Rattle.fset.specs.Looking.{MeetsBefore, MeetsInHead, MeetsRow}
+use Rattle.fset.specs.declared.seeking.LoadedBucket.{LoadedBucket}
+use Rattle.fset.proofs.laws.Frames.{behind_self, grows_then, own_then, reads_grow, reads_own}
+
+-- what is known of a row that was met
+pub record Met (key : ℕ) (old : PassView) (at : ℕ) (new : PassView) : Type 0 where
+  pub learned : List Known
+  pub losses : ℕ
+  pub few : losses ≤ 1
+  pub grows : Grows learned 0 losses old new
+  pub own : KeepsOwn old new
+  pub row : RowBlock
+  pub latest : latest_row learned ≡ Some row
+  pub is_row : row_at new.known at ≡ row
+  pub known : KnowsRow new at row
+  pub marked : IsMarkedFor new at key
+  pub heads : new.heads ≡ old.heads
+  pub spent : new.spent ≡ old.spent
+  pub hands : new.hands ≡ old.hands
+  pub sealed : ℕ
+  pub few_sealed : sealed ≤ 3
+  pub buckets : ℕ
+  pub few_buckets : (buckets ≡ 1) ⊎ (buckets ≡ 2)
+  pub made : new.made ≡ record old.made {
+    sealed_loads = old.made.sealed_loads + sealed;
+    bucket_loads = old.made.bucket_loads + buckets;
+  }
+
+-- how many turns the load of a bucket lost
+lost_few : (place : ℕ) (old : PassView) (word : ℕ) (new : PassView) → LoadsBucket place old word new
+    → (losses : ℕ) × (losses ≤ 1) × (new.lost ≡ old.lost + losses)
+lost_few place old word new loads = ⊎_elim
+    (λ (none : new.lost ≡ old.lost).
+    let few : (losses : ℕ) × (losses ≤ 1) × (new.lost ≡ old.lost + losses) = (0, omega arith, none ∙ sym (add-zero old.lost)) in few)
+    (λ (one : (new.lost ≡ old.lost + 1) × IsFrozen word).
+    let few : (losses : ℕ) × (losses ≤ 1) × (new.lost ≡ old.lost + losses) = (1, omega arith, one.0) in few)
+    (load_bucket_lost place old word new loads)
+
+-- a load of a bucket makes no entry
+bucket_own : (place : ℕ) (old : PassView) (word : ℕ) (new : PassView) → LoadsBucket place old word new → KeepsOwn old new
+bucket_own place old word new loads = record {
+  mine = ap (λ (view : PassView). view.mine) loads.view;
+  flight = ap (λ (view : PassView). view.flight) loads.view;
+  used = ap (λ (view : PassView). view.used) loads.view;
+}
+
+-- what a load of a bucket makes known, and what it lost
+bucket_grown : (place : ℕ) (old : PassView) (word : ℕ) (new : PassView) → LoadsBucket place old word new → (learned : List Known) (losses : ℕ)
+    → new.known ≡ learned ++ old.known → new.lost ≡ old.lost + losses → Grows learned 0 losses old new
+bucket_grown place old word new loads learned losses known lost = record {
+  number = ap (λ (view : PassView). view.number) loads.view;
+  facts = ap (λ (view : PassView). view.facts) loads.view;
+  front = load_bucket_grows place old word new loads;
+  known = known;
+  fixed = ([], ap (λ (view : PassView). view.fixed) loads.view);
+  asked = ([], ap (λ (view : PassView). view.asked) loads.view);
+  drawn = ap (λ (view : PassView). view.drawn) loads.view ∙ sym (add-zero old.drawn);
+  lost = lost;
+}
+
+module _ (head key at : ℕ) (v1 v2 : PassView) (now : IsHeadNow v1 head) (m : MeetsInHead head key v1 at v2) where
+  abbrev between : PassView
+  between = after_reads 1 v1
+
+  abbrev word : ℕ
+  word = m.bucket.word
+
+  abbrev loads : LoadsBucket m.bucket.place between word v2
+  loads = m.loads.loads
+
+  abbrev losses : (losses : ℕ) × (losses ≤ 1) × (v2.lost ≡ between.lost + losses)
+  losses = lost_few m.bucket.place between word v2 loads
+
+  -- frozen or not, the row is marked
+  marked : IsMarkedFor v2 (row_address word) key
+  marked = ⊎_elim
+      (λ (odd : word % 2 ≡ 1).
+      loads.marked.head head (key_bucket m.loads.generation.exponent key) m.loads.generation m.loads.is_word odd now key refl)
+      (λ (even : word % 2 ≡ 0).
+      loads.marked.mutable head (key_bucket m.loads.generation.exponent key) m.loads.generation m.loads.is_word m.filled even key refl)
+      (odd_or_even word)
+
+  -- The row of a bucket of the head is met.
+  pub met_in_head : Met key v1 at v2
+  met_in_head =
+      let known = load_bucket_learned m.bucket.place between word v2 loads m.filled in
+      record {
+        learned = known_block (row_address word) (Row loads.row) ∷ [];
+        losses = losses.0;
+        few = losses.1;
+        grows = grows_then [] (known_block (row_address word) (Row loads.row) ∷ []) 0 0 0 losses.0 v1 between v2 (reads_grow 1 v1)
+            (bucket_grown m.bucket.place between word v2 loads (known_block (row_address word) (Row loads.row) ∷ []) losses.0 known losses.2);
+        own = own_then v1 between v2 (reads_own 1 v1) (bucket_own m.bucket.place between word v2 loads);
+        row = loads.row;
+        latest = refl;
+        is_row = ap (row_at v2.known) m.row ∙ ap (λ (known : List Known). row_at known (row_address word)) known
+            ∙ row_at-first (row_address word) loads.row between.known;
+        known = subst (λ (a : ℕ). KnowsRow v2 a loads.row) (sym m.row) (load_bucket_knows m.bucket.place between word v2 loads m.filled);
+        marked = subst (λ (a : ℕ). IsMarkedFor v2 a key) (sym m.row) marked;
+        heads = ap (λ (view : PassView). view.heads) loads.view;
+        spent = ap (λ (view : PassView). view.spent) loads.view;
+        hands = ap (λ (view : PassView). view.hands) loads.view;
+        sealed = 1;
+        few_sealed = omega arith;
+        buckets = 1;
+        few_buckets = inl refl;
+        made = ap (λ (view : PassView). view.made) loads.view;
+      }
+
+module _ (head key at : ℕ) (v1 v4 : PassView) (sound : IsSound v1) (m : MeetsBefore head key v1 at v4) where
+  abbrev first : PassView
+  first = after_reads 1 v1
+
+  abbrev v2 : PassView
+  v2 = m.found
+
+  abbrev v3 : PassView
+  v3 = m.named
+
+  abbrev second : PassView
+  second = after_reads 1 v3
+
+  abbrev generation : GenerationBlock
+  generation = m.finds.generation
+
+  -- the bucket that is nil
+  abbrev bucket : ℕ
+  bucket = key_bucket generation.exponent key
+
+  abbrev finds : LoadsBucket m.nil.place first m.nil.word v2
+  finds = m.finds.loads
+
+  abbrev word : ℕ
+  word = m.bucket.word
+
+  abbrev loads : LoadsBucket m.bucket.place second word v4
+  loads = m.loads.loads
+
+  even : IsMutable m.nil.word
+  even = let nil = m.is_nil in omega (arith, nil)
+
+  -- the load of the nil bucket makes nothing known
+  still_known : v2.known ≡ v1.known
+  still_known = load_bucket_nil m.nil.place first m.nil.word v2 finds m.is_nil
+
+  knows_head : KnowsGeneration v2 head generation
+  knows_head = knows_more [] first v2 still_known head (Generation generation) m.finds.is_word.known
+
+  -- its generation has a predecessor,
+  behind : generation.predecessor ≢ 0
+  behind none = finds.filled head bucket generation m.finds.is_word (inr none) m.is_nil
+
+  -- whose address is the word behind the exponent
+  link : IsSealedWord v2 (head + 1) head 1 (Generation generation)
+  link = record { known = knows_head; sealed = omega arith; here = refl }
+
+  named_is : m.predecessor ≡ generation.predecessor
+  named_is = predecessor_word v2 head generation knows_head m.predecessor m.names.reads
+
+  -- reading it leaves the front as it was
+  front_still : v3.front ≡ v2.front
+  front_still =
+      ap (λ (view : PassView). view.front) m.names.view ∙ (m.names.stays head 1 (Generation generation) link (inr refl)).0
+
+  more_known : v3.known ≡ m.names.learned ++ v2.known
+  more_known = load_sealed_known (head + 1) v2 m.predecessor v3 m.names
+
+  knows_still : KnowsGeneration second head generation
+  knows_still = knows_more m.names.learned v2 second more_known head (Generation generation) knows_head
+
+  -- the bucket before isn't nil
+  filled : ¬ IsNil word
+  filled = loads.followed m.predecessor (key_bucket m.loads.generation.exponent key) m.loads.generation m.loads.is_word head generation
+      knows_still (sym named_is)
+
+  -- the nil bucket is the latest that was found so, from the front of now
+  nil_now : IsNilNow second head bucket
+  nil_now =
+      let lookup = generation_at-known first m.nil.place head bucket generation (sound_counted v1 first.made sound) m.finds.is_word in
+      let history : v3.front ≡ finds.history = front_still ∙ load_bucket_mutable m.nil.place first m.nil.word v2 finds even in
+      let noted : v2.nils ≡ nil_bucket first m.nil.place finds.history ∷ first.nils =
+      ap (λ (view : PassView). view.nils) finds.view
+      ∙ ap (λ (b : Bool). cond b (nil_bucket first m.nil.place finds.history ∷ first.nils) first.nils) (is_nil-nil m.nil.word m.is_nil) in
+      (first.nils,
+      ap (λ (view : PassView). view.nils) m.names.view
+      ∙ noted
+      ∙ (λ i. record { at = lookup.0 i; bucket = lookup.1 i; front = sym history i } ∷ first.nils))
+
+  -- frozen or not, the row is marked
+  marked_before : IsMarkedFor v4 (row_address word) key
+  marked_before = ⊎_elim
+      (λ (odd : word % 2 ≡ 1).
+      loads.marked.source m.predecessor (key_bucket m.loads.generation.exponent key) m.loads.generation m.loads.is_word odd head bucket
+      generation knows_still (sym named_is) nil_now key refl refl)
+      (λ (even_word : word % 2 ≡ 0).
+      loads.marked.mutable m.predecessor (key_bucket m.loads.generation.exponent key) m.loads.generation m.loads.is_word filled even_word
+      key refl)
+      (odd_or_even word)
+
+  abbrev lost_here : (losses : ℕ) × (losses ≤ 1) × (v4.lost ≡ second.lost + losses)
+  lost_here = lost_few m.bucket.place second word v4 loads
+
+  -- the predecessor becomes known
+  names_grow : Grows m.names.learned 0 0 v2 v3
+  names_grow = record {
+    number = ap (λ (view : PassView). view.number) m.names.view;
+    facts = ap (λ (view : PassView). view.facts) m.names.view;
+    front = subst (λ (front : List Entry). IsPrefix v2.front front) (sym front_still) (prefix_refl v2.front);
+    known = more_known;
+    fixed = ([], ap (λ (view : PassView). view.fixed) m.names.view);
+    asked = ([], ap (λ (view : PassView). view.asked) m.names.view);
+    drawn = ap (λ (view : PassView). view.drawn) m.names.view ∙ sym (add-zero v2.drawn);
+    lost = ap (λ (view : PassView). view.lost) m.names.view ∙ sym (add-zero v2.lost);
+  }
+
+  names_own : KeepsOwn v2 v3
+  names_own = record {
+    mine = ap (λ (view : PassView). view.mine) m.names.view;
+    flight = ap (λ (view : PassView). view.flight) m.names.view;
+    used = ap (λ (view : PassView). view.used) m.names.view;
+  }
+
+  -- The row of a bucket of the generation before is met.
+  pub met_before : Met key v1 at v4
+  met_before =
+      let nil_lost = load_bucket_lost_none m.nil.place first m.nil.word v2 finds even ∙ sym (add-zero first.lost) in
+      let one = grows_then [] [] 0 0 0 0 v1 first v2 (reads_grow 1 v1)
+          (bucket_grown m.nil.place first m.nil.word v2 finds [] 0 still_known nil_lost) in
+      let two = grows_then [] m.names.learned 0 0 0 0 v1 v2 v3 one names_grow in
+      let three = grows_then (m.names.learned ++ []) [] 0 0 0 0 v1 v3 second two (reads_grow 1 v3) in
+      let row_known = load_bucket_learned m.bucket.place second word v4 loads filled in
+      let four = grows_then ([] ++ (m.names.learned ++ [])) (known_block (row_address word) (Row loads.row) ∷ []) 0 0 0 lost_here.0 v1 second v4
+          three (bucket_grown m.bucket.place second word v4 loads (known_block (row_address word) (Row loads.row) ∷ []) lost_here.0 row_known
+          lost_here.2) in
+      record {
+        learned = (known_block (row_address word) (Row loads.row) ∷ []) ++ ([] ++ (m.names.learned ++ []));
+        losses = lost_here.0;
+        few = lost_here.1;
+        grows = four;
+        own = own_then v1 second v4 (own_then v1 v3 second (own_then v1 v2 v3 (own_then v1 first v2 (reads_own 1 v1)
+            (bucket_own m.nil.place first m.nil.word v2 finds)) names_own) (reads_own 1 v3))
+            (bucket_own m.bucket.place second word v4 loads);
+        row = loads.row;
+        latest = refl;
+        is_row = ap (row_at v4.known) m.row ∙ ap (λ (known : List Known). row_at known (row_address word)) row_known
+            ∙ row_at-first (row_address word) loads.row second.known;
+        known = subst (λ (a : ℕ). KnowsRow v4 a loads.row) (sym m.row) (load_bucket_knows m.bucket.place second word v4 loads filled);
+        marked = subst (λ (a : ℕ). IsMarkedFor v4 a key) (sym m.row) marked_before;
+        heads = ap (λ (view : PassView). view.heads) loads.view ∙ ap (λ (view : PassView). view.heads) m.names.view
+            ∙ ap (λ (view : PassView). view.heads) finds.view;
+        spent = ap (λ (view : PassView). view.spent) loads.view ∙ ap (λ (view : PassView). view.spent) m.names.view
+            ∙ ap (λ (view : PassView). view.spent) finds.view;
+        hands = ap (λ (view : PassView). view.hands) loads.view ∙ ap (λ (view : PassView). view.hands) m.names.view
+            ∙ ap (λ (view : PassView). view.hands) finds.view;
+        sealed = 3;
+        few_sealed = omega arith;
+        buckets = 2;
+        few_buckets = inr refl;
+        made =
+            let finds_made : v2.made ≡ record v1.made {
+              sealed_loads = v1.made.sealed_loads + 1;
+              bucket_loads = v1.made.bucket_loads + 1;
+            } = ap (λ (view : PassView). view.made) finds.view in
+            let names_made : v3.made ≡ record v2.made { sealed_loads = v2.made.sealed_loads + 1 } =
+            ap (λ (view : PassView). view.made) m.names.view in
+            let loads_made : v4.made ≡ record v3.made {
+              sealed_loads = v3.made.sealed_loads + 1;
+              bucket_loads = v3.made.bucket_loads + 1;
+            } = ap (λ (view : PassView). view.made) loads.view in
+            loads_made
+            ∙ ap (λ (made : StepCounts). record made { sealed_loads = made.sealed_loads + 1; bucket_loads = made.bucket_loads + 1 })
+            (names_made ∙ ap (λ (made : StepCounts). record made { sealed_loads = made.sealed_loads + 1 }) finds_made)
+            ∙ (λ i. record v1.made {
+              sealed_loads = (let sum : v1.made.sealed_loads + 1 + 1 + 1 ≡ v1.made.sealed_loads + 3 = omega arith in sum) i;
+              bucket_loads = (let sum : v1.made.bucket_loads + 1 + 1 ≡ v1.made.bucket_loads + 2 = omega arith in sum) i;
+            });
+      }
+
+-- However it was met, so it is.
+pub met_row : (head key at : ℕ) (old new : PassView) → IsSound old → IsHeadNow old head → MeetsRow head key old at new → Met key old at new
+met_row head key at old new sound now meets = ⊎_elim
+    (λ (in_head : MeetsInHead head key old at new). met_in_head head key at old new now in_head)
+    (λ (before : MeetsBefore head key old at new). met_before head key at old new sound before)
+    meets

@@ -4,7 +4,7 @@ use Rattle.step_core.specs.declared.views.PassView.{PassView}
 use Rattle.cells.specs.Steps.{Writes}
 use Rattle.cells.specs.Tokens.{BlockValue, IsSamePass}
 use Rattle.cells.proofs.laws.Within.{hand_within}
-use Rattle.fset.proofs.laws.Taking.{CopiesFront, copies_all, copies_one, copies_within, loads_none}
+use Rattle.fset.proofs.laws.Taking.{CopiesFront, copies_all, copies_one, copies_within, loads_none, written_known}
 use Rattle.fset.proofs.copying.copy_left.Goals as goal
 
 -- the block lies in the arena
@@ -32,7 +32,7 @@ loop-key-preserved g c =
     let v2 = c.take_first.new.pass.view in
     let v3 = c.write.new.pass.view in
     let same : IsSamePass c.args.pass.now c.write.new.pass = search rules in
-    let still : v3.known ≡ v2.known = ap (λ (view : PassView). view.known) c.write.ensures.writes.only in
+    let still = written_known c.loop-key.block.at place (key ∷ []) v2 v3 c.write.ensures.writes in
     record {
       same = same;
       block = c.write.ensures.block ∙ before.block;

@@ -3,6 +3,9 @@ pub mod Reading
 pub mod Found
 pub mod Copying
 pub mod Built
+pub mod Taking
+pub mod Splitting
+pub mod Joining
 pub mod Looking
 pub mod Meeting
 pub mod LookedUp

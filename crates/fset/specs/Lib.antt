@@ -2,6 +2,9 @@ pub mod Frames
 pub mod Seen
 pub mod Content
 pub mod Rows
+pub mod Taking
+pub mod Splitting
+pub mod Joining
 pub mod Seeking
 pub mod Looking
 pub mod Standing

@@ -15,19 +15,25 @@
 #![tactic(auto)]
 
 mod content;
+mod copying;
+mod joining;
 mod looking;
 mod outcomes;
 mod rows;
 mod seeking;
 mod seen;
+mod splitting;
+mod taking;
 mod turns;
 
 pub use content::find;
+pub use joining::build_joined;
 pub use looking::look_up;
 pub use outcomes::{Answered, Outcome, Turn};
 pub use rows::build_changed;
 pub use seeking::{Sought, seek};
 pub use seen::{Seen, read_row};
+pub use splitting::build_split;
 pub use turns::turn;
 
 #[cfg(test)]

@@ -133,7 +133,7 @@ fn build_without(round: &Round, pass: &mut Pass, seen: &Seen, before: u64) -> Re
 }
 
 // Draws a block for a row of so many keys, and writes the words before the keys.
-fn start_row(round: &Round, pass: &mut Pass, count: u64) -> Result<Block, Full>
+pub(crate) fn start_row(round: &Round, pass: &mut Pass, count: u64) -> Result<Block, Full>
     requires pass { IsPassOf round.now pass.old }
     requires fits { row_cost count ≤ max_draw }
     ensures pass { IsSamePass pass.old pass.new }

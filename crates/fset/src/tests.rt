@@ -11,6 +11,7 @@ use std::alloc::Global;
 use std::test::Fail;
 use step_core::{FIRST_BUCKET, Layout, opening, opening_words, row_address, spot};
 
+mod halves;
 mod turns;
 
 // A round that begins with these keys, and has so many words of room.
@@ -45,6 +46,7 @@ fn begin(alloc: Global, keys: &[u64], room: u64) -> Result<(Round, Pass), NoMemo
     requires rising { IsStrictlyIncreasing keys.now }
     requires few { (length keys.now ≤ 1000) × (room ≤ 1000) }
     ensures pass { IfOk result (λ r. r.1 ≡ fresh_pass r.0 0) }
+    ensures seats { IfOk result (λ r. r.0.facts.seats ≡ 1) }
 {
     let (round, mut passes) = begin_round(alloc, 1, keys, room)?;
     match passes.pop() {

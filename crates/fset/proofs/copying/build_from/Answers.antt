@@ -1,0 +1,24 @@
+use Rattle.std.proofs.Common.{◌≡◌, List, sym, ◌∙◌, subst}
+use Rattle.step_core.specs.declared.format.TheConstants.{FIRST_KEY}
+use Rattle.step_core.specs.declared.views.Known.{Known}
+use Rattle.cells.specs.Tokens.{BlockValue}
+use Rattle.fset.specs.Rows.{Builds}
+use Rattle.fset.specs.Taking.{Copies}
+use Rattle.fset.proofs.laws.Taking.{keys_built, started_known, still_known}
+use Rattle.fset.proofs.copying.build_from.Goals as goal
+
+-- the keys were counted, and then written
+pub returns-clause-answer : goal.returns-clause-answer
+returns-clause-answer g c =
+    let left = g.K.KeySource.left in
+    let count = c.count_left-count.result in
+    let block = c.in-Ok.block in
+    let old = c.args.pass.now.view in
+    let counted = c.count_left-count.new.pass.view in
+    let started = c.start_row.new.pass.view in
+    let new = c.copy_left.new.pass.view in
+    let loads = c.count_left-count.ensures.view in
+    let known : started.known ≡ old.known = started_known count block counted started c.in-Ok.ensures.answer ∙ still_known old counted loads in
+    subst (λ (last : BlockValue). Builds (left old.known c.args.keys) last old new) (sym c.copy_left.ensures.block)
+    (keys_built (left old.known c.args.keys) count block old counted started new loads c.count_left-count.ensures.count c.in-Ok.ensures.answer
+    (subst (λ (known : List Known). Copies block.at FIRST_KEY (left known c.args.keys) started new) known c.copy_left.ensures.copies))

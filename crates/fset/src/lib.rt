@@ -8,10 +8,10 @@
 //!
 //! The promise is that of `turn`: a call that it answers with a change has exactly one entry, past all
 //! that its pass had seen; one without a change has none, and the answer of the set after what the
-//! pass has then seen (`EndsTurn` of `specs/Turns.antt`). `seek` finds the row of a key in a turn and `look_up` without one, and `find`
-//! answers whether the content has it, whatever other passes do meanwhile, since a published row
-//! never changes. What a call learned, drew and lost is exact, and adds up (`specs/Frames.antt`). The
-//! smallest use is the test `a_turn_changes_the_set_once`.
+//! pass has then seen (`EndsTurn` of `specs/Turns.antt`). `seek` finds the row of a key in a turn and
+//! `look_up` without one, and `find` answers whether the content has it, whatever other passes do
+//! meanwhile, since a published row never changes. What a call learned, drew and lost is exact, and
+//! adds up (`specs/Frames.antt`). The smallest use is the test `a_turn_changes_the_set_once`.
 #![tactic(auto)]
 
 mod content;

@@ -33,8 +33,9 @@ fn collected(alloc: Global, words: &Words) -> Result<Vec<u64>, NoMemory>
     ensures { IfOk result (λ keys. keys.items ≡ all_live_keys words.now) }
 {
     let exponent = finest_exponent(words);
+    let classes = bucket_count(exponent);
     let mut keys = Vec::with_capacity(alloc, key_count(words) as usize)?;
-    for class in 0..bucket_count(exponent) {
+    for class in 0..classes {
         push_class(&mut keys, words, class, exponent)?;
     }
     Ok(keys)

@@ -109,6 +109,7 @@ pub record MaySwapRow (view : PassView) (place old at : ℕ) : Type 0 where
 abbrev pub view_after_swap_row : List Entry → ℕ → ℕ → ℕ → PassView → PassView
 view_after_swap_row history serial old at view = record view {
   front = history ++ swap_entry view serial old at ∷ [];
+  horizon = history ++ swap_entry view serial old at ∷ [];
   known = known_block at (Row (swapped_row view old at)) ∷ view.known;
   hands = without at view.hands;
   mine = view.mine ++ swap_entry view serial old at ∷ [];

@@ -3,11 +3,12 @@
 use Rattle.std.specs.Prelude.{◌≡◌, ℕ, ◌+◌}
 use Rattle.step_core.specs.declared.views.PassView.{PassView}
 
--- loads change at most the front, the known blocks and buckets, the lost turns, the open turn, and
+-- loads change at most the front and the horizon, the known blocks and buckets, the lost turns, the open turn, and
 -- what is noted of loads and beginnings
 abbrev pub OnlyLoads : PassView → PassView → Type 0
 OnlyLoads old new = new ≡ record old {
   front = new.front;
+  horizon = new.horizon;
   known = new.known;
   filled = new.filled;
   lost = new.lost;
@@ -30,8 +31,6 @@ OnlyReads old new = new ≡ record old {
   front = new.front;
   known = new.known;
   marks = new.marks;
-  heads = new.heads;
-  nils = new.nils;
   trials = new.trials;
   fixed = new.fixed;
   made = new.made;
@@ -51,11 +50,12 @@ OnlyDraws old new = new ≡ record old {
   made = new.made;
 }
 
--- exchanges of rows change at most the front, what is known, the blocks in hand, the pass's entries,
+-- exchanges of rows change at most the front and the horizon, what is known, the blocks in hand, the pass's entries,
 -- its turns and exchanges won, and what is noted of beginnings and events
 abbrev pub OnlySwaps : PassView → PassView → Type 0
 OnlySwaps old new = new ≡ record old {
   front = new.front;
+  horizon = new.horizon;
   known = new.known;
   hands = new.hands;
   mine = new.mine;

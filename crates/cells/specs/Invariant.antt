@@ -42,4 +42,4 @@ pub record HoldsRound (facts : RoundFacts) (words : List ℕ) (state : RoundStat
   pub hindsight : Each (HasHindsight facts.keys state.blocks state.cells history) state.views
   -- a pass that is the only one knows the whole table
   pub alone : Each (KnowsAlone facts state.head state.blocks state.cells) state.views
-  pub so_far : HasOneGeneration facts.keys state.head state.blocks state.views
+  pub so_far : HasOneGeneration state.head state.blocks

@@ -16,6 +16,7 @@ use Rattle.step_core.specs.declared.published.Published.{Published}
 use Rattle.step_core.specs.declared.published.Published.TheVariants.{Generation, Row, Op}
 use Rattle.step_core.specs.declared.published.OpBlock.{OpBlock}
 use Rattle.step_core.specs.declared.published.RowBlock.{RowBlock}
+use Rattle.step_core.specs.declared.views.Known.{Known}
 use Rattle.step_core.specs.declared.views.PassView.{PassView}
 use Rattle.step_core.specs.declared.views.RoundFacts.{RoundFacts}
 
@@ -61,10 +62,11 @@ abbrev pub longest_front : List PassView → List Entry
 longest_front [] = []
 longest_front (view ∷ others) = longer view.front (longest_front others)
 
--- what the pass has seen, and what it took from a note, are fronts of the history
+-- what the pass has seen, what it took from a note, and what its steps met are fronts of the history
 pub record BeginsHistory (history : List Entry) (pass : ℕ) (view : PassView) : Type 0 where
   pub front : IsPrefix view.front history
   pub heard : IsPrefix view.heard history
+  pub horizon : IsPrefix view.horizon history
 
 -- some pass has seen it all
 pub record IsSeenWhole (history : List Entry) (views : List PassView) : Type 0 where
@@ -105,6 +107,14 @@ IsGiven keys history key = is_in (keys ++ inserted_keys history) key ≡ true
 abbrev pub HasGivenKeys : List ℕ → List Entry → RowBlock → Type 0
 HasGivenKeys keys history row = All (IsGiven keys history) row.keys
 
+-- a known block, if it is a row, has opening keys and such as this front inserts
+abbrev pub IsGivenBlock : List ℕ → List Entry → Known → Type 0
+IsGivenBlock keys front known = (row : RowBlock) → known.block ≡ Row row → HasGivenKeys keys front row
+
+-- so has each row that a pass knows: its steps met the inserts of all its keys
+abbrev pub KnowsGiven : List ℕ → ℕ → PassView → Type 0
+KnowsGiven keys pass view = All (IsGivenBlock keys view.horizon) view.known
+
 -- the one history of the round
 pub record HoldsHistory (facts : RoundFacts) (blocks : ℕ → Option Published) (cells : ℕ → ℕ → ℕ)
     (views : List PassView) (history : List Entry) : Type 0 where
@@ -115,3 +125,4 @@ pub record HoldsHistory (facts : RoundFacts) (blocks : ℕ → Option Published)
   pub who : All (IsOfPasses facts.seats) history
   pub ordered : (pass : ℕ) → IsInOrder history pass
   pub used : Each (UsesSerials history) views
+  pub given : Each (KnowsGiven facts.keys) views

@@ -13,6 +13,7 @@ use Rattle.step_core.specs.declared.published.RowBlock.{RowBlock}
 use Rattle.step_core.specs.declared.views.PassView.{PassView}
 use Rattle.step_core.specs.declared.views.RoundFacts.{RoundFacts}
 use Rattle.cells.specs.Known.{KnowsBlock, KnowsRow, KnowsGeneration}
+use Rattle.cells.specs.Past.{HasGivenKeys}
 use Rattle.cells.specs.SoFar.{KnowsOneGeneration}
 
 -- so many words from the address on lie in the arena
@@ -56,8 +57,11 @@ pub record IsSound (view : PassView) : Type 0 where
       → block ≡ other
   pub apart : (at other place : ℕ) → IsInBlock view at place → IsInBlock view other place
       → at ≡ other
-  -- known rows rise, and known generations are no larger than they may be
+  -- known rows rise, and have the opening's keys and such as were inserted; known generations are no
+  -- larger than they may be
   pub rows : (at : ℕ) (row : RowBlock) → KnowsRow view at row → HoldsClass row
+  pub given : (at : ℕ) (row : RowBlock) → KnowsRow view at row
+      → HasGivenKeys view.facts.keys view.horizon row
   pub generations : (at : ℕ) (generation : GenerationBlock) → KnowsGeneration view at generation
       → generation.exponent ≤ max_exponent
   -- blocks in hand lie in the arena, share no word, and none is known

@@ -30,6 +30,7 @@ use Rattle.cells.specs.SoFar.{NamesMutableRow}
 abbrev pub view_after_load_head : ℕ → List Entry → ℕ → GenerationBlock → PassView → PassView
 view_after_load_head head history seen generation view = record view {
   front = history;
+  horizon = history;
   known = known_block head (Generation generation) ∷ view.known;
   heads = record { at = head; front = history } ∷ view.heads;
   turn = Some (record { head = head; seen = seen; loads = [] });
@@ -168,6 +169,7 @@ nil_bucket view place history = record {
 abbrev pub view_after_load_bucket : ℕ → ℕ → List Entry → RowBlock → List Mark → PassView → PassView
 view_after_load_bucket place word history row marks view = record view {
   front = if is_frozen word then view.front else history;
+  horizon = history;
   known = if is_nil word then view.known else known_block (row_address word) (Row row) ∷ view.known;
   filled = if is_nil word then view.filled else filled_bucket view place ∷ view.filled;
   lost = if loses_turn view place word view.turn then view.lost + 1 else view.lost;

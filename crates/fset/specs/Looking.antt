@@ -43,7 +43,7 @@ MeetsRow head key old at new = MeetsInHead head key old at new ⊎ MeetsBefore h
 -- The row of a key was looked up and read, by one load of the head and of one bucket or two. Of the key
 -- it says what the set after the pass's new front says, which isn't shorter than its front at the load of
 -- the head. Nothing was drawn, no entry was made, and at most one turn was lost: one that was open.
-pub record LooksUp (key : ℕ) (old : PassView) (seen : Seen) (new : PassView) : Type 0 where
+pub record LooksUp (key : ℕ) (old : PassView) (found : Seen) (new : PassView) : Type 0 where
   pub learned : List Known
   pub losses : ℕ
   pub few : losses ≤ 1
@@ -51,9 +51,9 @@ pub record LooksUp (key : ℕ) (old : PassView) (seen : Seen) (new : PassView) :
   pub own : KeepsOwn old new
   pub row : RowBlock
   pub latest : latest_row learned ≡ Some row
-  pub is_row : row_at new.known seen.at ≡ row
-  pub seen : IsSeen new seen
-  pub agrees : Agrees new seen key
+  pub is_row : row_at new.known found.at ≡ row
+  pub seen : IsSeen new found
+  pub agrees : Agrees new found key
   pub head : HeadLoad
   pub heads : new.heads ≡ head ∷ old.heads
   pub further : IsPrefix head.front new.front

@@ -25,10 +25,10 @@ leaves_key Insert = true
 leaves_key Remove = false
 leaves_key Contains = false
 
--- no row is wider, as far as the pass has seen: each key is the opening's or an insert's, and one
--- may be that of an operation
+-- no row that the pass met is wider: each key is the opening's or an insert's of the history as far as it
+-- had come then, and one may be that of an operation
 abbrev pub most_keys : PassView → ℕ
-most_keys view = length view.facts.keys + length (inserted_keys view.front) + 1
+most_keys view = length view.facts.keys + length (inserted_keys view.horizon) + 1
 
 -- The width is the number of keys of the row that the pass learned last, which is of the key's
 -- bucket and has the key where the call leaves it there.

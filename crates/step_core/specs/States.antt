@@ -66,6 +66,7 @@ fresh_view facts number = record {
   number = number;
   front = [];
   heard = [];
+  horizon = [];
   known = [];
   hands = [];
   drawn = 0;

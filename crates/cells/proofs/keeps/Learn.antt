@@ -7,7 +7,6 @@ use Rattle.step_core.specs.declared.views.PassView.{PassView}
 use Rattle.step_core.specs.declared.views.RoundFacts.{RoundFacts}
 use Rattle.cells.specs.Moves.{Moves, LearnTells, view_after_learn}
 use Rattle.cells.proofs.laws.Fronts.{longer-own, longer-other, longer-begins}
-use Rattle.cells.proofs.laws.Given.{given_known}
 use Rattle.cells.proofs.laws.Lone.{is_untouched-same, same_ledger}
 use Rattle.cells.proofs.laws.LoneRound.{lone_front}
 use Rattle.cells.proofs.parts.NoWord.{load_moved}
@@ -22,7 +21,7 @@ learn_moves facts old step words state history round there small =
     let own = longer-own old.front old.heard history begun.front begun.heard in
     let begins = longer-begins old.front old.heard history begun.front begun.heard in
     let goes = sees_goes round old new there refl own begins (history, refl) (round.fits.known old.number old there)
-    (given_known facts.keys old.front new.front old.known own (round.so_far.given old.number old there))
+    (round.past.given old.number old there)
     (round.hindsight old.number old there).marks (λ alone. refl) in
     let stays : old.facts.seats ≡ 1 → new.front ≡ old.front = λ alone.
     let seats : facts.seats ≡ 1 =

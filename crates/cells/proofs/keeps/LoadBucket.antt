@@ -31,8 +31,8 @@ use Rattle.cells.specs.Moves.{Moved, Moves, load_bucket_tells}
 use Rattle.cells.specs.Paid.{wins_of}
 use Rattle.cells.specs.Sound.{IsSound}
 use Rattle.cells.specs.Steps.{LoadsBucket, LoadsKnownBucket, AgreesWithHistory, NamesOwnRow, is_nil, is_frozen, filled_bucket, nil_bucket, view_after_load_bucket}
-use Rattle.cells.specs.SoFar.{IsGivenBlock, KnowsGiven}
-use Rattle.cells.proofs.laws.BucketLoads.{is_frozen-mutable, is_nil-nil, is_nil-other}
+use Rattle.cells.specs.Past.{KnowsGiven}
+use Rattle.cells.proofs.laws.BucketLoads.{is_nil-nil, is_nil-other}
 use Rattle.cells.proofs.laws.FoundBucket.{published, word_is, row_there, finds_filled, finds_followed, names_row, row_agrees, is_untouched-cases}
 use Rattle.cells.proofs.laws.Given.{given_published}
 use Rattle.cells.proofs.laws.Known.{generation_at-known}
@@ -163,14 +163,10 @@ module _ {facts : RoundFacts} {words : List ℕ} {state : RoundState} {history :
         nil = nil_is;
       }
 
-    -- the row's keys are given by the front, which is the history
+    -- the row's keys are given by the history
     given_now : KnowsGiven facts.keys old.number new_view
-    given_now =
-        let mutable : is_frozen found ≡ false =
-        is_frozen-mutable found (names_row round old there place at bucket generation is).mutable in
-        subst (λ (frozen : Bool). All (IsGivenBlock facts.keys (if frozen then old.front else history)) new_view.known) (sym mutable)
-        (given_published facts.keys history state.blocks new_view.known round.given
-        (row_known state.blocks found row old.known here (round.fits.known old.number old there)))
+    given_now = given_published facts.keys history state.blocks new_view.known round.given
+        (row_known state.blocks found row old.known here (round.fits.known old.number old there))
 
     -- what the view noted is so
     noted : HasHindsight facts.keys state.blocks state.cells history old.number new_view
@@ -201,6 +197,7 @@ module _ {facts : RoundFacts} {words : List ℕ} {state : RoundState} {history :
           grows = front_grows (is_frozen found) old.front history begun.front;
           front = front_begins (is_frozen found) old.front history begun.front;
           heard = begun.heard;
+          horizon = prefix_refl history;
           mine = refl;
           flight = refl;
           used = refl;

@@ -96,6 +96,7 @@ module _ {facts : RoundFacts} {words : List ℕ} {state : RoundState} {history :
         grows = begun.front;
         front = prefix_refl history;
         heard = begun.heard;
+        horizon = prefix_refl history;
         mine = refl;
         flight = refl;
         used = refl;

@@ -1,5 +1,5 @@
 -- A load of a sealed word keeps the invariant: it reads what is known, and what it names is then known.
-use Rattle.std.proofs.Common.{◌≡◌, ◌≢◌, ◌⊎◌, inl, inr, ⊎_elim, ℕ, List, [], ◌∷◌, ◌++◌, get_or, set, nat_eq, cond, Bool, true, false, if◌then◌else◌, refl, sym, ap, ◌∙◌, subst, arith, Option, Some, None, All}
+use Rattle.std.proofs.Common.{◌≡◌, ◌≢◌, ◌⊎◌, inl, inr, ⊎_elim, ℕ, List, [], ◌∷◌, get_or, set, nat_eq, cond, Bool, true, false, if◌then◌else◌, refl, sym, ap, ◌∙◌, subst, arith, Option, Some, None, All}
 use mathlib.Core.Option.{some}
 use lib.ListN.{get_elem?}
 use native.Mathlib.Decide.{ℕ_discrete}
@@ -23,13 +23,12 @@ use Rattle.cells.specs.Paid.{wins_of}
 use Rattle.cells.specs.Steps.{LoadsSealed, ReadsSealed, LearnsOp, LearnsPredecessor, LearnsNothing, view_after_load_sealed}
 use Rattle.step_core.specs.Fits.{IsPublished}
 use Rattle.cells.proofs.keeps.MarkSealed.{Reach, one_word, reach}
-use Rattle.cells.proofs.laws.Given.{given_known}
 use Rattle.cells.proofs.laws.LoneRound.{lone_front}
 use Rattle.cells.proofs.parts.PutView.{Goes, stays_whole}
 use Rattle.cells.proofs.parts.NoWord.{load_moved}
 use Rattle.cells.proofs.parts.SameTurns.{sees_goes}
 use Rattle.cells.proofs.laws.Lone.{generation_in-stays, is_untouched-same, same_ledger}
-use Rattle.cells.specs.SoFar.{IsGivenBlock}
+use Rattle.cells.specs.Past.{IsGivenBlock}
 use Rattle.cells.proofs.laws.Sound.{sound_view}
 
 -- what word `k` of a block names
@@ -157,10 +156,10 @@ module _ {facts : RoundFacts} {words : List ℕ} {state : RoundState} {history :
   no_link (Op op) known = refl
 
   -- so no row became known
-  learned_given : All (IsGivenBlock facts.keys old.front) learned
-  learned_given = subst (All (IsGivenBlock facts.keys old.front))
+  learned_given : All (IsGivenBlock facts.keys old.horizon) learned
+  learned_given = subst (All (IsGivenBlock facts.keys old.horizon))
       (ap (learned_from state.blocks) (sym (names_nothing k block (inr (no_link block sealed.known)))))
-      (All-nil (IsGivenBlock facts.keys old.front))
+      (All-nil (IsGivenBlock facts.keys old.horizon))
 
   -- the only pass finds the head's generation still
   same_generation : facts.seats ≡ 1 → head_generation new_view ≡ head_generation old
@@ -182,8 +181,7 @@ module _ {facts : RoundFacts} {words : List ℕ} {state : RoundState} {history :
       let begun = round.past.begun old.number old there in
       sees_goes round old new_view there refl reached.grows reached.begins begun.heard
       (All-append (IsPublished state.blocks) learned old.known learned_published (round.fits.known old.number old there))
-      (given_known facts.keys old.front reached.front (learned ++ old.known) reached.grows
-      (All-append (IsGivenBlock facts.keys old.front) learned old.known learned_given (round.so_far.given old.number old there)))
+      (All-append (IsGivenBlock facts.keys old.horizon) learned old.known learned_given (round.past.given old.number old there))
       reached.stood same_generation
 
   -- so the load moves the round

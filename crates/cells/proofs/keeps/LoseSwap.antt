@@ -52,6 +52,7 @@ module _ {facts : RoundFacts} {words : List ℕ} {state : RoundState} {history :
         grows = prefix_refl old.front;
         front = begun.front;
         heard = begun.heard;
+        horizon = begun.horizon;
         mine = refl;
         flight = refl;
         used = refl;
@@ -62,7 +63,7 @@ module _ {facts : RoundFacts} {words : List ℕ} {state : RoundState} {history :
         hindsight =
             let was = round.hindsight old.number old there in
             record { marks = was.marks; heads = was.heads; nils = was.nils };
-        given = round.so_far.given old.number old there;
+        given = round.past.given old.number old there;
       }
 
   -- a pass that is the only one loses no exchange

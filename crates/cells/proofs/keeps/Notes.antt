@@ -56,7 +56,7 @@ module _ {facts : RoundFacts} {words : List ℕ} {state : RoundState} {history :
   goes =
       let begun = round.past.begun old.number old there in
       sees_goes round old heard there refl (prefix_refl old.front) begun.front begins (round.fits.known old.number old there)
-      (round.so_far.given old.number old there) (round.hindsight old.number old there).marks (λ alone. refl)
+      (round.past.given old.number old there) (round.hindsight old.number old there).marks (λ alone. refl)
 
   -- the invariant holds with the front that the pass heard
   hear_view : HoldsRound facts words (put round old heard there goes state.owners state.next) history
@@ -73,7 +73,7 @@ module _ {facts : RoundFacts} {words : List ℕ} {state : RoundState} {history :
   note_goes =
       let begun = round.past.begun old.number old there in
       sees_goes round old (view_after_note old) there refl (prefix_refl old.front) begun.front begun.heard
-      (round.fits.known old.number old there) (round.so_far.given old.number old there)
+      (round.fits.known old.number old there) (round.past.given old.number old there)
       (round.hindsight old.number old there).marks (λ alone. refl)
 
   -- the invariant holds with it

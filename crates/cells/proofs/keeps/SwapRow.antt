@@ -124,6 +124,7 @@ module _ {facts : RoundFacts} {words : List ℕ} {state : RoundState} {history :
         begun = record {
           front = prefix_trans view.front history (new_history s) sees.begun.front (entry s ∷ [], refl);
           heard = prefix_trans view.heard history (new_history s) sees.begun.heard (entry s ∷ [], refl);
+          horizon = prefix_trans view.horizon history (new_history s) sees.begun.horizon (entry s ∷ [], refl);
         };
         own = entries ∙ sees.own ∙ ap (λ (list : List Entry). view.mine ++ list) (sym (flying view.flight));
         used = subst (λ (list : List Entry). All (λ (e : Entry). e.serial < view.used) list) (sym entries) sees.used;
@@ -205,6 +206,7 @@ module _ {facts : RoundFacts} {words : List ℕ} {state : RoundState} {history :
         begun = record {
           front = prefix_refl (new_history s);
           heard = prefix_trans s.old.heard history (new_history s) was.begun.heard (entry s ∷ [], refl);
+          horizon = prefix_refl (new_history s);
         };
         own = entries
             ∙ ap (λ (list : List Entry). list ++ entry s ∷ []) mine

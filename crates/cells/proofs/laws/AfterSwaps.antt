@@ -131,9 +131,9 @@ inside_of (first ∷ keys) list all key here = elim (cases_Bool (nat_eq first ke
 
 -- A known row has at most as many keys as the round has opening keys and inserts that the pass has seen.
 pub row_fits : (view : PassView) (at : ℕ) (row : RowBlock) → IsSound view → KnowsRow view at row
-    → length row.keys ≤ length view.facts.keys + length (inserted_keys view.front)
+    → length row.keys ≤ length view.facts.keys + length (inserted_keys view.horizon)
 row_fits view at row sound known =
-    let given = sound.so_far.given at row known in
-    let all : List ℕ = view.facts.keys ++ inserted_keys view.front in
+    let given = sound.given at row known in
+    let all : List ℕ = view.facts.keys ++ inserted_keys view.horizon in
     let fits = length-inside row.keys all (sound.rows at row known).rising (inside_of row.keys all given) in
-    omega (arith, fits, length-append view.facts.keys (inserted_keys view.front))
+    omega (arith, fits, length-append view.facts.keys (inserted_keys view.horizon))

@@ -15,6 +15,7 @@ sound_counted view made sound = record {
       (record { block = word.block; known = word.known; begun = word.begun; within = word.within })
       (record { block = too.block; known = too.known; begun = too.begun; within = too.within });
   rows = sound.rows;
+  given = sound.given;
   generations = sound.generations;
   hands = λ at place word. sound.hands at place (record { begun = word.begun; within = word.within });
   hands_apart = λ at other place word too. sound.hands_apart at other place (record { begun = word.begun; within = word.within })
@@ -22,5 +23,5 @@ sound_counted view made sound = record {
   hands_unknown = λ at other place word too. sound.hands_unknown at other place (record { begun = word.begun; within = word.within })
       (record { block = too.block; known = too.known; begun = too.begun; within = too.within });
   lone = sound.lone;
-  so_far = record { first = sound.so_far.first; no_op = sound.so_far.no_op; given = sound.so_far.given };
+  so_far = record { first = sound.so_far.first; no_op = sound.so_far.no_op };
 }

@@ -109,6 +109,7 @@ fresh_sound facts number small lt = record {
   one = λ at block other knows also. absurd (omega (arith, knows.1));
   apart = λ at other place inside also. absurd (omega (arith, inside.known.1));
   rows = λ at row knows. absurd (omega (arith, knows.1));
+  given = λ at row knows. absurd (omega (arith, knows.1));
   generations = λ at generation knows. absurd (omega (arith, knows.1));
   hands = λ at place inside. absurd (omega (arith, inside.begun, inside.within));
   hands_apart = λ at other place inside also. absurd (omega (arith, inside.begun, inside.within));
@@ -117,7 +118,6 @@ fresh_sound facts number small lt = record {
   so_far = record {
     first = λ at generation knows. absurd (omega (arith, knows.1));
     no_op = λ at row knows. absurd (omega (arith, knows.1));
-    given = λ at row knows. absurd (omega (arith, knows.1));
   };
 }
 

@@ -16,8 +16,7 @@ use Rattle.step_core.specs.States.{IsRow}
 use Rattle.step_core.specs.declared.published.Published.{Published}
 use Rattle.step_core.specs.declared.published.RowBlock.{RowBlock}
 use Rattle.step_core.specs.declared.views.Known.{Known}
-use Rattle.cells.specs.Past.{inserted_by, inserted_keys, IsGiven, HasGivenKeys}
-use Rattle.cells.specs.SoFar.{IsGivenBlock}
+use Rattle.cells.specs.Past.{inserted_by, inserted_keys, IsGiven, IsGivenBlock, HasGivenKeys}
 
 -- the keys that are inserted by one call more stand behind it
 inserted_by-append : (call : Call) (key : ℕ) (keys more : List ℕ) → inserted_by call key (keys ++ more) ≡ inserted_by call key keys ++ more

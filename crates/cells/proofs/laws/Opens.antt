@@ -28,9 +28,9 @@ use Rattle.cells.specs.Invariant.{IsFilled, KnowsFilled, HoldsRound}
 use Rattle.cells.specs.Lone.{KnowsAlone, first_generation}
 use Rattle.cells.specs.Modeled.{IsRound}
 use Rattle.cells.specs.Paid.{wins_of, IsPaid}
-use Rattle.cells.specs.Past.{HoldsHistory, BeginsHistory, OwnsEntries, IsOfPasses, UsesSerials, HasGivenKeys}
+use Rattle.cells.specs.Past.{HoldsHistory, BeginsHistory, OwnsEntries, IsOfPasses, UsesSerials, HasGivenKeys, IsGivenBlock, KnowsGiven}
 use Rattle.cells.specs.Hindsight.{HasStood, StoodInHead, StoodInSources, HasHindsight}
-use Rattle.cells.specs.SoFar.{HasOneGeneration, IsGivenBlock, KnowsGiven}
+use Rattle.cells.specs.SoFar.{HasOneGeneration}
 use Rattle.cells.specs.Sound.{AreFacts}
 use Rattle.cells.specs.Seats.{IsRuled, IsSeat, AreSeated, SpeaksFor, facts_of, first_seat}
 use Rattle.cells.specs.declared.round.Round.TheInside as round
@@ -113,7 +113,7 @@ module _ (seats cap : ℕ) (keys : List ℕ) (rising : IsStrictlyIncreasing keys
   opening_past : HoldsHistory facts state.blocks state.cells views []
   opening_past = record {
     legal = tt;
-    begun = each_fresh (BeginsHistory []) facts (λ pass. record { front = ([], refl); heard = ([], refl) });
+    begun = each_fresh (BeginsHistory []) facts (λ pass. record { front = ([], refl); heard = ([], refl); horizon = ([], refl) });
     whole = record {
       pass = 0;
       view = fresh_view facts 0;
@@ -124,6 +124,7 @@ module _ (seats cap : ℕ) (keys : List ℕ) (rising : IsStrictlyIncreasing keys
     who = All-nil (IsOfPasses seats);
     ordered = λ pass. increasing [] tt;
     used = each_fresh (UsesSerials []) facts (λ pass. All-nil (λ (entry : Entry). entry.serial < 0));
+    given = each_fresh (KnowsGiven keys) facts (λ pass. All-nil (IsGivenBlock keys []));
   }
 
   -- the opening is a table of plain rows
@@ -135,12 +136,11 @@ module _ (seats cap : ℕ) (keys : List ℕ) (rising : IsStrictlyIncreasing keys
   first_there = generation_there is_table
 
   -- no other address has one, and no operation is published
-  one_generation : HasOneGeneration keys state.head state.blocks views
+  one_generation : HasOneGeneration state.head state.blocks
   one_generation = record {
     only = each_generation is_table (λ at generation. at ≡ state.head) refl;
     first = each_generation is_table (λ at generation. generation.predecessor ≡ 0) refl;
     no_op = λ at op there. each_block is_table (λ at block. block ≡ Op op → ⊥) (λ e. cc) (λ bucket low e. cc) at (Op op) there refl;
-    given = each_fresh (KnowsGiven keys) facts (λ pass. All-nil (IsGivenBlock keys []));
   }
 
   -- an opening holds with no history

@@ -21,8 +21,8 @@ use Rattle.step_core.specs.declared.views.PassView.{PassView}
 use Rattle.step_core.specs.declared.views.RoundFacts.{RoundFacts}
 use Rattle.cells.specs.Invariant.{HoldsRound}
 use Rattle.cells.specs.Known.{known_block, KnowsBlock, KnowsRow}
-use Rattle.cells.specs.Past.{HasGivenKeys, flying_entry}
-use Rattle.cells.specs.SoFar.{IsGivenBlock, KnowsOneGeneration}
+use Rattle.cells.specs.Past.{HasGivenKeys, IsGivenBlock, flying_entry}
+use Rattle.cells.specs.SoFar.{KnowsOneGeneration}
 use Rattle.cells.specs.Sound.{IsInArena, IsInHand, IsInBlock, AreFacts, IsSound}
 use Rattle.cells.proofs.laws.LoneRound.{lone_lost}
 use Rattle.cells.proofs.parts.PutState.{there_inside}
@@ -129,9 +129,6 @@ module _ {facts : RoundFacts} {words : List ℕ} {state : RoundState} {history :
   one_generation = record {
     first = λ at generation known. round.so_far.first at generation (is_published at (Generation generation) known);
     no_op = row_plain;
-    given = λ at row known. subst (λ (facts : RoundFacts). HasGivenKeys facts.keys view.front row) (sym same_round)
-        (All-contains (IsGivenBlock facts.keys view.front) view.known (known_block at (Row row))
-        (round.so_far.given number view is_view) known row refl);
   }
 
   -- at one address one block is known
@@ -155,6 +152,9 @@ module _ {facts : RoundFacts} {words : List ℕ} {state : RoundState} {history :
         apart = λ at other place word too. blocks_are_apart sealed_words open_words hands_of laid at other place
             (block_word at place word) (block_word other place too);
         rows = row_holds;
+        given = λ at row known. subst (λ (facts : RoundFacts). HasGivenKeys facts.keys view.horizon row) (sym same_round)
+            (All-contains (IsGivenBlock facts.keys view.horizon) view.known (known_block at (Row row))
+            (round.past.given number view is_view) known row refl);
         generations = λ at generation known. round.fits.holds.chain.small at generation
             (is_published at (Generation generation) known);
         hands = hand_inside;

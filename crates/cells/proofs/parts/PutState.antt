@@ -20,9 +20,8 @@ use Rattle.step_core.specs.declared.views.RoundFacts.{RoundFacts}
 use Rattle.cells.specs.Invariant.{HoldsRound, KnowsFilled}
 use Rattle.cells.specs.Lone.{KnowsAlone}
 use Rattle.cells.specs.Paid.{IsPaid, wins_of}
-use Rattle.cells.specs.Past.{BeginsHistory, IsSeenWhole, OwnsEntries, IsOfPasses, IsInOrder, UsesSerials, HasGivenKeys}
+use Rattle.cells.specs.Past.{BeginsHistory, IsSeenWhole, OwnsEntries, IsOfPasses, IsInOrder, KnowsGiven, UsesSerials, HasGivenKeys}
 use Rattle.cells.specs.Hindsight.{HasHindsight}
-use Rattle.cells.specs.SoFar.{KnowsGiven}
 
 -- what stands at a place of a list stands inside it
 pub there_inside : {A : Type 0} (list : List A) (place : ℕ) (item : A) → get_elem? list place ≡ some item → place < length list
@@ -107,7 +106,7 @@ each_sees round pass view there = record {
   paid = round.paid pass view there;
   alone = round.alone pass view there;
   hindsight = round.hindsight pass view there;
-  given = round.so_far.given pass view there;
+  given = round.past.given pass view there;
 }
 
 module _ {facts : RoundFacts} {words : List ℕ} {state : RoundState} {history : List Entry} (round : HoldsRound facts words state history)
@@ -150,6 +149,7 @@ module _ {facts : RoundFacts} {words : List ℕ} {state : RoundState} {history :
         who = stands.who;
         ordered = stands.ordered;
         used = λ pass view is. (each_sees_after pass view is).used;
+        given = λ pass view is. (each_sees_after pass view is).given;
       };
       given = stands.given;
       members = stands.members;
@@ -161,6 +161,5 @@ module _ {facts : RoundFacts} {words : List ℕ} {state : RoundState} {history :
         only = stands.only;
         first = stands.first;
         no_op = stands.no_op;
-        given = λ pass view is. (each_sees_after pass view is).given;
       };
     }

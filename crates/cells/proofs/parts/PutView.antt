@@ -18,9 +18,8 @@ use Rattle.cells.specs.Invariant.{HoldsRound, KnowsFilled}
 use Rattle.cells.specs.Lone.{KnowsAlone}
 use Rattle.cells.specs.Moves.{Moved}
 use Rattle.cells.specs.Paid.{IsPaid, wins_of}
-use Rattle.cells.specs.Past.{IsSeenWhole, UsesSerials, flying_entry}
+use Rattle.cells.specs.Past.{IsSeenWhole, KnowsGiven, UsesSerials, flying_entry}
 use Rattle.cells.specs.Hindsight.{HasHindsight}
-use Rattle.cells.specs.SoFar.{KnowsGiven}
 use Rattle.cells.proofs.parts.PutState.{Sees, Stands, there_inside, each_put, sum_by-put_same, each_sees, put_state}
 
 -- a front that reaches no less far than one that is the whole history is the whole history
@@ -39,6 +38,7 @@ pub record Goes (facts : RoundFacts) (head : ℕ) (blocks : ℕ → Option Publi
   pub grows : IsPrefix old.front new.front
   pub front : IsPrefix new.front history
   pub heard : IsPrefix new.heard history
+  pub horizon : IsPrefix new.horizon history
   pub mine : new.mine ≡ old.mine
   pub flight : new.flight ≡ old.flight
   pub used : new.used ≡ old.used
@@ -119,7 +119,7 @@ module _ {facts : RoundFacts} {words : List ℕ} {state : RoundState} {history :
         numbered = record { same_round = goes.same_round ∙ was.numbered.same_round; is_pass = goes.number };
         known = goes.known;
         filled = goes.filled;
-        begun = record { front = goes.front; heard = goes.heard };
+        begun = record { front = goes.front; heard = goes.heard; horizon = goes.horizon };
         own = was.own ∙ (λ k. sym goes.mine k ++ flying_entry state.blocks state.cells (sym goes.flight k));
         used = subst (λ (used : ℕ). UsesSerials history old.number (record old { used = used })) (sym goes.used) was.used;
         paid = goes.paid;

@@ -15,7 +15,7 @@ use Rattle.cells.specs.Hindsight.{HasStood}
 use Rattle.cells.specs.Invariant.{HoldsRound}
 use Rattle.cells.specs.Lone.{head_at, generation_in, first_generation, head_generation}
 use Rattle.cells.specs.Paid.{wins_of}
-use Rattle.cells.specs.SoFar.{KnowsGiven}
+use Rattle.cells.specs.Past.{IsGivenBlock}
 use Rattle.cells.proofs.laws.Lone.{is_untouched-same, table_stays}
 use Rattle.cells.proofs.parts.StillPaid.{paid_same}
 use Rattle.cells.proofs.parts.PutView.{Goes}
@@ -39,7 +39,7 @@ module _ {facts : RoundFacts} {words : List ℕ} {state : RoundState} {history :
   -- that what it knows is published and given, that the rows that it marked stood, and where it is the only one that it finds the head's
   -- generation still
   pub sees_goes : new ≡ seen_view old new → IsPrefix old.front new.front → IsPrefix new.front history → IsPrefix new.heard history
-      → KnowsPublished state.blocks old.number new → KnowsGiven facts.keys old.number new
+      → KnowsPublished state.blocks old.number new → All (IsGivenBlock facts.keys old.horizon) new.known
       → All (HasStood facts.keys state.blocks state.cells history) new.marks
       → (facts.seats ≡ 1 → generation_in new.known (head_at old) (first_generation old.facts) ≡ head_generation old)
       → Goes facts state.head state.blocks state.cells history (wins_of state.views) old new
@@ -52,6 +52,7 @@ module _ {facts : RoundFacts} {words : List ℕ} {state : RoundState} {history :
         grows = grows;
         front = front;
         heard = heard;
+        horizon = (round.past.begun old.number old there).horizon;
         mine = refl;
         flight = refl;
         used = refl;
@@ -76,5 +77,5 @@ module _ {facts : RoundFacts} {words : List ℕ} {state : RoundState} {history :
   draws_go =
       let begun = round.past.begun old.number old there in
       sees_goes round old (record old { hands = hands; drawn = drawn; spent = spent; made = made }) there refl (prefix_refl old.front)
-      begun.front begun.heard (round.fits.known old.number old there) (round.so_far.given old.number old there)
+      begun.front begun.heard (round.fits.known old.number old there) (round.past.given old.number old there)
       (round.hindsight old.number old there).marks (λ alone. refl)

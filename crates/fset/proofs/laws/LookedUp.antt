@@ -5,7 +5,6 @@ use base.Growing.{prefix_trans}
 use Rattle.set_model.specs.Keys.{is_in}
 use Rattle.set_model.specs.declared.entry.Entry.{Entry}
 use Rattle.step_core.specs.declared.published.Published.TheVariants.{Generation}
-use Rattle.step_core.specs.declared.published.RowBlock.{RowBlock}
 use Rattle.step_core.specs.declared.views.HeadLoad.{HeadLoad}
 use Rattle.step_core.specs.declared.views.Known.{Known}
 use Rattle.step_core.specs.declared.views.PassView.{PassView}
@@ -21,7 +20,7 @@ use Rattle.fset.specs.Seen.{KnowsRowAt, ReadsRow}
 use Rattle.fset.specs.declared.seen.Seen.{Seen}
 use Rattle.fset.proofs.laws.Frames.{grows_then, latest_row-append, own_then}
 use Rattle.fset.proofs.laws.Looking.{head_grows}
-use Rattle.fset.proofs.laws.Meeting.{Met}
+use Rattle.fset.proofs.laws.Meeting.{Met, then_loses}
 use Rattle.fset.proofs.laws.Reading.{seen_content-plain}
 
 -- A head that was loaded was so from the front of now.
@@ -59,9 +58,10 @@ module _ (key head at : ℕ) (v0 v1 v2 v3 : PassView) (seen : Seen) (heads : Loa
     learned = learned;
     losses = met.losses;
     few = met.few;
-    grows = grows_then learned [] 0 0 met.losses 0 v0 v2 v3
-        (grows_then (known_block head (Generation heads.generation) ∷ []) met.learned 0 0 0 met.losses v0 v1 v2
-        (head_grows v0 head v1 heads).0 met.grows) grown;
+    grows = subst (λ (sum : ℕ). Grows learned 0 sum v0 v3) (add-zero met.losses)
+        (grows_then learned [] 0 0 met.losses 0 v0 v2 v3
+        (then_loses (known_block head (Generation heads.generation) ∷ []) met.learned met.losses v0 v1 v2
+        (head_grows v0 head v1 heads).0 met.grows) grown);
     own = own_then v0 v2 v3 (own_then v0 v1 v2 (head_grows v0 head v1 heads).1 met.own) (record {
       mine = ap (λ (view : PassView). view.mine) reads.reads.only;
       flight = ap (λ (view : PassView). view.flight) reads.reads.only;

@@ -20,7 +20,7 @@ use Rattle.cells.specs.Sound.{IsSound}
 use Rattle.cells.specs.Steps.{LoadsBucket, LoadsHead, LoadsSealed}
 use Rattle.cells.proofs.laws.BucketLoads.{load_bucket_among, load_bucket_learned, load_bucket_grows, load_bucket_lost_none}
 use Rattle.cells.proofs.laws.Counted.{sound_counted}
-use Rattle.cells.proofs.laws.HeadLoads.{load_head_knows, load_head_turn, load_sealed_still}
+use Rattle.cells.proofs.laws.HeadLoads.{load_head_turn, load_sealed_still}
 use Rattle.cells.proofs.laws.Known.{knows_more}
 use Rattle.cells.proofs.laws.Sealed.{exponent_word}
 use Rattle.cells.proofs.laws.Within.{generation_within}
@@ -30,7 +30,7 @@ use Rattle.fset.specs.declared.seeking.LoadedBucket.{LoadedBucket}
 use Rattle.fset.proofs.laws.Frames.{behind_self, grows_then, own_then, reads_grow, reads_own}
 
 -- A load of the head grows the view by the head's generation.
-head_grows : (old : PassView) (word : ℕ) (new : PassView) (loads : LoadsHead old word new)
+pub head_grows : (old : PassView) (word : ℕ) (new : PassView) (loads : LoadsHead old word new)
     → Grows (known_block word (Generation loads.generation) ∷ []) 0 0 old new × KeepsOwn old new
 head_grows old word new loads = (
   subst (λ (view : PassView). Grows (known_block word (Generation loads.generation) ∷ []) 0 0 old view) (sym loads.view) (record {

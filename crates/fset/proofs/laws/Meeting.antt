@@ -15,16 +15,15 @@ use Rattle.cells.specs.Frames.{after_reads}
 use Rattle.cells.specs.Known.{known_block, row_at, KnowsGeneration, KnowsRow, IsSealedWord}
 use Rattle.cells.specs.Marks.{IsHeadNow, IsMarkedFor, IsNilNow}
 use Rattle.cells.specs.Sound.{IsSound}
-use Rattle.cells.specs.Steps.{LoadsBucket, is_nil, nil_bucket}
+use Rattle.cells.specs.Steps.{LoadsBucket, nil_bucket}
 use Rattle.cells.proofs.laws.BucketLoads.{is_nil-nil, load_bucket_grows, load_bucket_knows, load_bucket_learned, load_bucket_lost, load_bucket_lost_none, load_bucket_mutable, load_bucket_nil, odd_or_even}
 use Rattle.cells.proofs.laws.Counted.{sound_counted}
-use Rattle.cells.proofs.laws.HeadLoads.{load_sealed_known, load_sealed_predecessor}
+use Rattle.cells.proofs.laws.HeadLoads.{load_sealed_known}
 use Rattle.cells.proofs.laws.Known.{generation_at-known, knows_more, row_at-first}
 use Rattle.cells.proofs.laws.Sealed.{predecessor_word}
 use Rattle.fset.specs.Frames.{Grows, KeepsOwn, latest_row}
 use Rattle.fset.specs.Looking.{MeetsBefore, MeetsInHead, MeetsRow}
-use Rattle.fset.specs.declared.seeking.LoadedBucket.{LoadedBucket}
-use Rattle.fset.proofs.laws.Frames.{behind_self, grows_then, own_then, reads_grow, reads_own}
+use Rattle.fset.proofs.laws.Frames.{grows_then, own_then, reads_grow, reads_own}
 
 -- what is known of a row that was met
 pub record Met (key : ℕ) (old : PassView) (at : ℕ) (new : PassView) : Type 0 where
@@ -49,6 +48,13 @@ pub record Met (key : ℕ) (old : PassView) (at : ℕ) (new : PassView) : Type 0
     sealed_loads = old.made.sealed_loads + sealed;
     bucket_loads = old.made.bucket_loads + buckets;
   }
+
+-- what loses no turn, and then something that loses as many
+pub then_loses : (first second : List Known) (losses : ℕ) (old between new : PassView) → Grows first 0 0 old between
+    → Grows second 0 losses between new → Grows (second ++ first) 0 losses old new
+then_loses first second losses old between new one two =
+    subst (λ (sum : ℕ). Grows (second ++ first) 0 sum old new) (let sum : 0 + losses ≡ losses = omega arith in sum)
+    (grows_then first second 0 0 0 losses old between new one two)
 
 -- how many turns the load of a bucket lost
 lost_few : (place : ℕ) (old : PassView) (word : ℕ) (new : PassView) → LoadsBucket place old word new
@@ -112,7 +118,7 @@ module _ (head key at : ℕ) (v1 v2 : PassView) (now : IsHeadNow v1 head) (m : M
         learned = known_block (row_address word) (Row loads.row) ∷ [];
         losses = losses.0;
         few = losses.1;
-        grows = grows_then [] (known_block (row_address word) (Row loads.row) ∷ []) 0 0 0 losses.0 v1 between v2 (reads_grow 1 v1)
+        grows = then_loses [] (known_block (row_address word) (Row loads.row) ∷ []) losses.0 v1 between v2 (reads_grow 1 v1)
             (bucket_grown m.bucket.place between word v2 loads (known_block (row_address word) (Row loads.row) ∷ []) losses.0 known losses.2);
         own = own_then v1 between v2 (reads_own 1 v1) (bucket_own m.bucket.place between word v2 loads);
         row = loads.row;
@@ -154,11 +160,11 @@ module _ (head key at : ℕ) (v1 v4 : PassView) (sound : IsSound v1) (m : MeetsB
   abbrev finds : LoadsBucket m.nil.place first m.nil.word v2
   finds = m.finds.loads
 
-  abbrev word : ℕ
-  word = m.bucket.word
+  abbrev before_word : ℕ
+  before_word = m.bucket.word
 
-  abbrev loads : LoadsBucket m.bucket.place second word v4
-  loads = m.loads.loads
+  abbrev before_loads : LoadsBucket m.bucket.place second before_word v4
+  before_loads = m.loads.loads
 
   even : IsMutable m.nil.word
   even = let nil = m.is_nil in omega (arith, nil)
@@ -193,8 +199,8 @@ module _ (head key at : ℕ) (v1 v4 : PassView) (sound : IsSound v1) (m : MeetsB
   knows_still = knows_more m.names.learned v2 second more_known head (Generation generation) knows_head
 
   -- the bucket before isn't nil
-  filled : ¬ IsNil word
-  filled = loads.followed m.predecessor (key_bucket m.loads.generation.exponent key) m.loads.generation m.loads.is_word head generation
+  filled : ¬ IsNil before_word
+  filled = before_loads.followed m.predecessor (key_bucket m.loads.generation.exponent key) m.loads.generation m.loads.is_word head generation
       knows_still (sym named_is)
 
   -- the nil bucket is the latest that was found so, from the front of now
@@ -204,25 +210,26 @@ module _ (head key at : ℕ) (v1 v4 : PassView) (sound : IsSound v1) (m : MeetsB
       let history : v3.front ≡ finds.history = front_still ∙ load_bucket_mutable m.nil.place first m.nil.word v2 finds even in
       let noted : v2.nils ≡ nil_bucket first m.nil.place finds.history ∷ first.nils =
       ap (λ (view : PassView). view.nils) finds.view
-      ∙ ap (λ (b : Bool). cond b (nil_bucket first m.nil.place finds.history ∷ first.nils) first.nils) (is_nil-nil m.nil.word m.is_nil) in
-      (first.nils,
-      ap (λ (view : PassView). view.nils) m.names.view
-      ∙ noted
-      ∙ (λ i. record { at = lookup.0 i; bucket = lookup.1 i; front = sym history i } ∷ first.nils))
+      ∙ ap (λ (b : Bool). cond b (nil_bucket first m.nil.place finds.history ∷ first.nils) first.nils) (is_nil-nil m.nil.word m.is_nil) in (
+        first.nils,
+        ap (λ (view : PassView). view.nils) m.names.view
+            ∙ noted
+            ∙ (λ i. record { at = lookup.0 i; bucket = lookup.1 i; front = sym history i } ∷ first.nils),
+      )
 
   -- frozen or not, the row is marked
-  marked_before : IsMarkedFor v4 (row_address word) key
+  marked_before : IsMarkedFor v4 (row_address before_word) key
   marked_before = ⊎_elim
-      (λ (odd : word % 2 ≡ 1).
-      loads.marked.source m.predecessor (key_bucket m.loads.generation.exponent key) m.loads.generation m.loads.is_word odd head bucket
+      (λ (odd : before_word % 2 ≡ 1).
+      before_loads.marked.source m.predecessor (key_bucket m.loads.generation.exponent key) m.loads.generation m.loads.is_word odd head bucket
       generation knows_still (sym named_is) nil_now key refl refl)
-      (λ (even_word : word % 2 ≡ 0).
-      loads.marked.mutable m.predecessor (key_bucket m.loads.generation.exponent key) m.loads.generation m.loads.is_word filled even_word
+      (λ (even_word : before_word % 2 ≡ 0).
+      before_loads.marked.mutable m.predecessor (key_bucket m.loads.generation.exponent key) m.loads.generation m.loads.is_word filled even_word
       key refl)
-      (odd_or_even word)
+      (odd_or_even before_word)
 
   abbrev lost_here : (losses : ℕ) × (losses ≤ 1) × (v4.lost ≡ second.lost + losses)
-  lost_here = lost_few m.bucket.place second word v4 loads
+  lost_here = lost_few m.bucket.place second before_word v4 before_loads
 
   -- the predecessor becomes known
   names_grow : Grows m.names.learned 0 0 v2 v3
@@ -249,32 +256,32 @@ module _ (head key at : ℕ) (v1 v4 : PassView) (sound : IsSound v1) (m : MeetsB
   met_before =
       let nil_lost = load_bucket_lost_none m.nil.place first m.nil.word v2 finds even ∙ sym (add-zero first.lost) in
       let one = grows_then [] [] 0 0 0 0 v1 first v2 (reads_grow 1 v1)
-          (bucket_grown m.nil.place first m.nil.word v2 finds [] 0 still_known nil_lost) in
+      (bucket_grown m.nil.place first m.nil.word v2 finds [] 0 still_known nil_lost) in
       let two = grows_then [] m.names.learned 0 0 0 0 v1 v2 v3 one names_grow in
       let three = grows_then (m.names.learned ++ []) [] 0 0 0 0 v1 v3 second two (reads_grow 1 v3) in
-      let row_known = load_bucket_learned m.bucket.place second word v4 loads filled in
-      let four = grows_then ([] ++ (m.names.learned ++ [])) (known_block (row_address word) (Row loads.row) ∷ []) 0 0 0 lost_here.0 v1 second v4
-          three (bucket_grown m.bucket.place second word v4 loads (known_block (row_address word) (Row loads.row) ∷ []) lost_here.0 row_known
-          lost_here.2) in
+      let row_known = load_bucket_learned m.bucket.place second before_word v4 before_loads filled in
+      let four = then_loses ([] ++ (m.names.learned ++ [])) (known_block (row_address before_word) (Row before_loads.row) ∷ []) lost_here.0 v1 second v4
+      three (bucket_grown m.bucket.place second before_word v4 before_loads (known_block (row_address before_word) (Row before_loads.row) ∷ []) lost_here.0 row_known
+      lost_here.2) in
       record {
-        learned = (known_block (row_address word) (Row loads.row) ∷ []) ++ ([] ++ (m.names.learned ++ []));
+        learned = (known_block (row_address before_word) (Row before_loads.row) ∷ []) ++ ([] ++ (m.names.learned ++ []));
         losses = lost_here.0;
         few = lost_here.1;
         grows = four;
         own = own_then v1 second v4 (own_then v1 v3 second (own_then v1 v2 v3 (own_then v1 first v2 (reads_own 1 v1)
             (bucket_own m.nil.place first m.nil.word v2 finds)) names_own) (reads_own 1 v3))
-            (bucket_own m.bucket.place second word v4 loads);
-        row = loads.row;
+            (bucket_own m.bucket.place second before_word v4 before_loads);
+        row = before_loads.row;
         latest = refl;
-        is_row = ap (row_at v4.known) m.row ∙ ap (λ (known : List Known). row_at known (row_address word)) row_known
-            ∙ row_at-first (row_address word) loads.row second.known;
-        known = subst (λ (a : ℕ). KnowsRow v4 a loads.row) (sym m.row) (load_bucket_knows m.bucket.place second word v4 loads filled);
+        is_row = ap (row_at v4.known) m.row ∙ ap (λ (known : List Known). row_at known (row_address before_word)) row_known
+            ∙ row_at-first (row_address before_word) before_loads.row second.known;
+        known = subst (λ (a : ℕ). KnowsRow v4 a before_loads.row) (sym m.row) (load_bucket_knows m.bucket.place second before_word v4 before_loads filled);
         marked = subst (λ (a : ℕ). IsMarkedFor v4 a key) (sym m.row) marked_before;
-        heads = ap (λ (view : PassView). view.heads) loads.view ∙ ap (λ (view : PassView). view.heads) m.names.view
+        heads = ap (λ (view : PassView). view.heads) before_loads.view ∙ ap (λ (view : PassView). view.heads) m.names.view
             ∙ ap (λ (view : PassView). view.heads) finds.view;
-        spent = ap (λ (view : PassView). view.spent) loads.view ∙ ap (λ (view : PassView). view.spent) m.names.view
+        spent = ap (λ (view : PassView). view.spent) before_loads.view ∙ ap (λ (view : PassView). view.spent) m.names.view
             ∙ ap (λ (view : PassView). view.spent) finds.view;
-        hands = ap (λ (view : PassView). view.hands) loads.view ∙ ap (λ (view : PassView). view.hands) m.names.view
+        hands = ap (λ (view : PassView). view.hands) before_loads.view ∙ ap (λ (view : PassView). view.hands) m.names.view
             ∙ ap (λ (view : PassView). view.hands) finds.view;
         sealed = 3;
         few_sealed = omega arith;
@@ -290,7 +297,7 @@ module _ (head key at : ℕ) (v1 v4 : PassView) (sound : IsSound v1) (m : MeetsB
             let loads_made : v4.made ≡ record v3.made {
               sealed_loads = v3.made.sealed_loads + 1;
               bucket_loads = v3.made.bucket_loads + 1;
-            } = ap (λ (view : PassView). view.made) loads.view in
+            } = ap (λ (view : PassView). view.made) before_loads.view in
             loads_made
             ∙ ap (λ (made : StepCounts). record made { sealed_loads = made.sealed_loads + 1; bucket_loads = made.bucket_loads + 1 })
             (names_made ∙ ap (λ (made : StepCounts). record made { sealed_loads = made.sealed_loads + 1 }) finds_made)

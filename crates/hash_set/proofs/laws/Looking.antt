@@ -1,5 +1,5 @@
 -- A key whose row was looked up, and which was then looked for in it, was looked at and nothing else.
-use Rattle.std.proofs.Common.{◌≡◌, ℕ, ◌+◌, ◌≤◌, List, [], ◌∷◌, length, sym, ap, ◌∙◌, subst, add_assoc, arith}
+use Rattle.std.proofs.Common.{◌≡◌, ℕ, ◌+◌, ◌≤◌, List, [], ◌∷◌, length, sym, ap, ◌∙◌, subst, add-zero, add_assoc, arith}
 use mathlib.Core.List.{IsPrefix}
 use Rattle.set_model.specs.declared.entry.Entry.{Entry}
 use Rattle.step_core.specs.declared.views.HeadLoad.{HeadLoad}
@@ -21,8 +21,9 @@ only_looks key old between new seen loads looks few same = record {
   learned = looks.learned;
   losses = looks.losses;
   few_losses = looks.few;
-  grows = grows_then looks.learned [] 0 0 looks.losses 0 old between new looks.grows
-      (subst (Grows [] 0 0 between) (sym same) (reads_grow loads between));
+  grows = subst (λ (sum : ℕ). Grows looks.learned 0 sum old new) (add-zero looks.losses)
+      (grows_then looks.learned [] 0 0 looks.losses 0 old between new looks.grows
+      (subst (Grows [] 0 0 between) (sym same) (reads_grow loads between)));
   own = own_then old between new looks.own (subst (KeepsOwn between) (sym same) (reads_own loads between));
   head = looks.head;
   heads = ap (λ (view : PassView). view.heads) same ∙ looks.heads;

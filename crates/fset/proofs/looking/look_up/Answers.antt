@@ -1,6 +1,6 @@
 use Rattle.cells.proofs.laws.HeadLoads.{load_head_knows}
 use Rattle.fset.proofs.laws.LookedUp.{head_now, looked_up, met_known}
-use Rattle.fset.proofs.laws.Meeting.{Met, met_row}
+use Rattle.fset.proofs.laws.Meeting.{met_row}
 use Rattle.fset.proofs.looking.look_up.Goals as goal
 
 -- the head is known, from the front of now

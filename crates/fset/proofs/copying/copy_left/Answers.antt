@@ -1,6 +1,5 @@
-use Rattle.std.proofs.Common.{rules, ◌≡◌, ℕ, ◌+◌, List, [], ◌∷◌, sym, ap, ◌∙◌, subst, arith}
+use Rattle.std.proofs.Common.{rules, ℕ, ◌+◌, List, [], ◌∷◌, sym, ap, ◌∙◌, subst, arith}
 use Rattle.step_core.specs.declared.views.Known.{Known}
-use Rattle.step_core.specs.declared.views.PassView.{PassView}
 use Rattle.cells.specs.Steps.{Writes}
 use Rattle.cells.specs.Tokens.{BlockValue, IsSamePass}
 use Rattle.cells.proofs.laws.Within.{hand_within}

@@ -3,7 +3,7 @@ ghost use Rattle.std.specs.Prelude.{◌≡◌, ◌≤◌, IfOk, IfErr};
 ghost use Rattle.cells.specs.Tokens.{IsPassOf, IsSamePass};
 ghost use Rattle.fset.specs.Rows.{Builds, RefusesRow};
 ghost use Rattle.fset.specs.Seen.{IsSeen};
-ghost use Rattle.fset.specs.Splitting.{HasPart, part_left, split_keys};
+ghost use Rattle.fset.specs.Splitting.{TakesFromClass, class_left, split_keys};
 ghost use Rattle.step_core.specs.Limits.{max_exponent};
 
 use crate::Seen;
@@ -56,9 +56,9 @@ pub(crate) struct ClassKeys {
 }
 
 impl KeySource for ClassKeys {
-    ghost are_known = { HasPart };
+    ghost are_known = { TakesFromClass };
 
-    ghost left = { part_left };
+    ghost left = { class_left };
 
     fn take_first(&mut self, round: &Round, pass: &mut Pass) -> Option<u64> {
         while let Some(key) = self.row.take_first(round, pass) {

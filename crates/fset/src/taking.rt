@@ -2,7 +2,7 @@
 ghost use Rattle.std.specs.Prelude.{◌≡◌, ℕ, ◌+◌, ◌<◌, ◌^◌, List, IfSome};
 ghost use Rattle.cells.specs.Tokens.{IsPassOf, IsSamePass};
 ghost use Rattle.fset.specs.Taking.{
-  HasRow,
+  TakesFromRow,
   LoadsNothingNew,
   TakesKey,
   all_keys,
@@ -61,12 +61,12 @@ impl RowKeys {
     // The first key that is left, if there is one. It isn't taken.
     pub(crate) fn first(&self, round: &Round, pass: &mut Pass) -> Option<u64>
         requires pass { IsPassOf round.now pass.old }
-        requires knows { HasRow pass.old.view.known self.now }
+        requires knows { TakesFromRow pass.old.view.known self.now }
         ensures pass { IsSamePass pass.old pass.new }
         ensures first { TakesKey (row_left pass.old.view.known self.now) result
             (row_left pass.old.view.known (behind_first self.now)) }
         ensures behind { IfSome result
-            (λ _. HasRow pass.old.view.known (behind_first self.now)) }
+            (λ _. TakesFromRow pass.old.view.known (behind_first self.now)) }
         ensures fits { IfSome result (λ _. self.now.taken + 1 < 2 ^ 64) }
         ensures view { LoadsNothingNew pass.old.view pass.new.view }
     {
@@ -78,7 +78,7 @@ impl RowKeys {
 }
 
 impl KeySource for RowKeys {
-    ghost are_known = { HasRow };
+    ghost are_known = { TakesFromRow };
 
     ghost left = { row_left };
 

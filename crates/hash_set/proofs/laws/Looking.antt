@@ -1,8 +1,7 @@
 -- A key whose row was looked up, and which was then looked for in it, was looked at and nothing else.
-use Rattle.std.proofs.Common.{◌≡◌, ℕ, ◌+◌, ◌≤◌, List, [], ◌∷◌, length, sym, ap, ◌∙◌, subst, add-zero, add_assoc, arith}
+use Rattle.std.proofs.Common.{◌≡◌, ℕ, ◌+◌, ◌≤◌, List, [], length, sym, ap, ◌∙◌, subst, add-zero, add_assoc, arith}
 use mathlib.Core.List.{IsPrefix}
 use Rattle.set_model.specs.declared.entry.Entry.{Entry}
-use Rattle.step_core.specs.declared.views.HeadLoad.{HeadLoad}
 use Rattle.step_core.specs.declared.views.PassView.{PassView}
 use Rattle.step_core.specs.declared.views.StepCounts.{StepCounts}
 use Rattle.step_core.specs.declared.published.RowBlock.{RowBlock}

@@ -16,3 +16,6 @@ pub mod Lone
 pub mod SoFar
 pub mod Sound
 pub mod Exchanges
+pub mod Freezing
+pub mod Filling
+pub mod HeadSwaps

@@ -15,8 +15,11 @@ use Rattle.step_core.specs.declared.views.PassView.{PassView}
 use Rattle.step_core.specs.declared.views.RoundFacts.{RoundFacts}
 use Rattle.arena.specs.Hands.{words_at}
 use Rattle.cells.specs.declared.rule.SeatView.{SeatView}
-use Rattle.step_core.specs.Format.{row_address}
+use Rattle.step_core.specs.Format.{IsNil, row_address}
 use Rattle.cells.specs.Exchanges.{SwapsRow, LosesSwap}
+use Rattle.cells.specs.Filling.{FillsBucket, LosesFill}
+use Rattle.cells.specs.Freezing.{FreezesBucket}
+use Rattle.cells.specs.HeadSwaps.{SwapsHead, LosesHead}
 use Rattle.cells.specs.Invariant.{HoldsRound}
 use Rattle.cells.specs.Sound.{IsSound}
 use Rattle.cells.specs.Lone.{SameLedger}
@@ -89,6 +92,20 @@ pub record SwapTells (old : PassView) (step : TableStep ℕ) (word : ℕ) (new :
   pub won : word ≡ step.first
       → SwapsRow (serial_of step.said) step.first (row_address step.second) old new
   pub lost : word ≢ step.first → LosesSwap old new
+
+-- a freeze tells of the word that it found
+abbrev pub freeze_tells : PassView → TableStep ℕ → ℕ → PassView → Type 0
+freeze_tells old step word new = FreezesBucket step.word old word new
+
+-- an exchange of a nil bucket's word for that of the row in hand is won where it finds 0
+pub record FillTells (old : PassView) (step : TableStep ℕ) (word : ℕ) (new : PassView) : Type 0 where
+  pub won : IsNil word → FillsBucket step.word (row_address step.second) old new
+  pub lost : ¬ IsNil word → LosesFill step.word old new
+
+-- an exchange of the head `first` for the generation in hand is won where it finds it
+pub record HeadTells (old : PassView) (step : TableStep ℕ) (word : ℕ) (new : PassView) : Type 0 where
+  pub won : word ≡ step.first → SwapsHead step.first step.second old new
+  pub lost : word ≢ step.first → LosesHead step.first old new
 
 -- what a pass has once it took a note: the note's front beside its own
 abbrev pub view_after_hear : List Entry → PassView → PassView

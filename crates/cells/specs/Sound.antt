@@ -14,7 +14,7 @@ use Rattle.step_core.specs.declared.views.PassView.{PassView}
 use Rattle.step_core.specs.declared.views.RoundFacts.{RoundFacts}
 use Rattle.cells.specs.Known.{KnowsBlock, KnowsRow, KnowsGeneration}
 use Rattle.cells.specs.Past.{HasGivenKeys}
-use Rattle.cells.specs.SoFar.{KnowsOneGeneration}
+use Rattle.cells.specs.SoFar.{KnowsNoOp}
 
 -- so many words from the address on lie in the arena
 pub record IsInArena (facts : RoundFacts) (at count : ℕ) : Type 0 where
@@ -71,4 +71,4 @@ pub record IsSound (view : PassView) : Type 0 where
   pub hands_unknown : (at other place : ℕ) → IsInHand view at place → IsInBlock view other place → ⊥
   -- a pass that is the only one has lost no turn
   pub lone : view.facts.seats ≡ 1 → view.lost ≡ 0
-  pub so_far : KnowsOneGeneration view
+  pub no_op : KnowsNoOp view

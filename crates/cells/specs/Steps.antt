@@ -23,7 +23,6 @@ use Rattle.cells.specs.Known.{known_block, link_of, generation_at, bucket_at, Is
 use Rattle.cells.specs.Lone.{head_at, head_generation, is_among, is_untouched, SameLedger}
 use Rattle.cells.specs.Past.{longer}
 use Rattle.cells.specs.Marks.{IsMarkedFor, IsHeadNow, IsNilNow}
-use Rattle.cells.specs.SoFar.{NamesMutableRow}
 
 -- Loading the head: the front is the history, the head generation is known, the load is noted, and
 -- a turn opens.
@@ -255,7 +254,6 @@ pub record LoadsBucket (place : ℕ) (old : PassView) (word : ℕ) (new : PassVi
   pub marked : MarksRow place old word new
   pub view : new ≡ view_after_load_bucket place word history row marks old
   pub alone : old.facts.seats ≡ 1 → LoadsKnownBucket place old word new
-  pub so_far : NamesMutableRow word
 
 -- A draw within the arena: a block of zeros in hand.
 abbrev pub view_after_draw : ℕ → ℕ → PassView → PassView

@@ -1,6 +1,6 @@
 // What each kind of step at the table tells its pass, and how table seats are cut and put together.
 ghost use Rattle.std.specs.Prelude.{[], ◌++◌};
-ghost use Rattle.cells.specs.Moves.{Tells, load_head_tells, load_sealed_tells, load_bucket_tells, DrawTells, write_tells, SwapTells, LearnTells, view_after_hear};
+ghost use Rattle.cells.specs.Moves.{Tells, load_head_tells, load_sealed_tells, load_bucket_tells, DrawTells, write_tells, SwapTells, freeze_tells, FillTells, HeadTells, LearnTells, view_after_hear};
 ghost use Rattle.cells.specs.Past.{longest_front};
 ghost use Rattle.cells.specs.Steps.{view_after_note};
 ghost use Rattle.cells.specs.Seats.{pass_seat, note_seat, spent_seat, fresh_of, pass_of, other_passes};
@@ -42,6 +42,24 @@ pub(crate) struct SwapRow;
 
 impl Play<u64, SeatView> for SwapRow {
     ghost then = { Tells SwapTells };
+}
+
+pub(crate) struct Freeze;
+
+impl Play<u64, SeatView> for Freeze {
+    ghost then = { Tells freeze_tells };
+}
+
+pub(crate) struct InitBucket;
+
+impl Play<u64, SeatView> for InitBucket {
+    ghost then = { Tells FillTells };
+}
+
+pub(crate) struct SwapHead;
+
+impl Play<u64, SeatView> for SwapHead {
+    ghost then = { Tells HeadTells };
 }
 
 pub(crate) struct Learn;

@@ -1,6 +1,6 @@
 -- A round with one pass, as that pass can tell it without a word or a row: which keys the set has,
 -- what was drawn, and what a call draws then.
-use Rattle.std.specs.Prelude.{ℕ, ◌+◌, Bool, true, false, nat_le, List, [], ◌∷◌, Option, Some, None}
+use Rattle.std.specs.Prelude.{ℕ, ◌+◌, ◌&&◌, not, Bool, true, false, nat_eq, nat_le, List, [], ◌∷◌, Option, Some, None}
 use Rattle.set_model.specs.declared.call.Call.{Call}
 use Rattle.step_core.specs.Buckets.{class_keys}
 use Rattle.step_core.specs.Rising.{keys_after_call}
@@ -48,6 +48,16 @@ drawing len ledger =
 -- the ledger after a call that changed the set
 abbrev pub changed : Call → ℕ → Ledger → Ledger
 changed call key ledger = record ledger { keys = keys_after_call call key ledger.keys }
+
+-- the ledger after a nil bucket of the head was filled
+abbrev pub touched : ℕ → Ledger → Ledger
+touched bucket ledger = record ledger {
+  untouched = λ other. not (nat_eq bucket other) && ledger.untouched other;
+}
+
+-- the ledger after a generation of this exponent became the head, all of whose buckets are nil
+abbrev pub resized : ℕ → Ledger → Ledger
+resized exponent ledger = record ledger { exponent = exponent; untouched = λ bucket. true }
 
 -- the keys of the set that are of a bucket of the head
 abbrev pub bucket_keys : ℕ → Ledger → List ℕ

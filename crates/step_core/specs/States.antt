@@ -55,6 +55,9 @@ no_steps = record {
   draws = 0;
   writes = 0;
   row_swaps = 0;
+  fills = 0;
+  freezes = 0;
+  head_swaps = 0;
   notes = 0;
   learned = 0;
 }

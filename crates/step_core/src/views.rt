@@ -76,8 +76,14 @@ pub struct StepCounts {
     pub draws: u64,
     /// Writes into blocks in hand.
     pub writes: u64,
-    /// Exchanges of bucket words, won or lost.
+    /// Exchanges of rows, won or lost.
     pub row_swaps: u64,
+    /// Exchanges that fill a nil bucket, won or lost.
+    pub fills: u64,
+    /// Freezes of bucket words.
+    pub freezes: u64,
+    /// Exchanges of HEAD, won or lost.
+    pub head_swaps: u64,
     /// Notes made. Each is one load of HEAD that isn't among the others.
     pub notes: u64,
     /// Loads of HEAD by which it learned from notes, two for each note. They aren't among the others.

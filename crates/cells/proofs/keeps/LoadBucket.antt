@@ -192,6 +192,7 @@ module _ {facts : RoundFacts} {words : List ℕ} {state : RoundState} {history :
           number = refl;
           same_round = refl;
           known = row_known state.blocks found row old.known here (round.fits.known old.number old there);
+          fixed = round.fixed old.number old there;
           filled = filled_known state.cells found (filled_bucket old place) old.filled
               (λ some_row. subst (λ (w : ℕ). ¬ IsNil w) filled_is some_row) (round.filled old.number old there);
           grows = front_grows (is_frozen found) old.front history begun.front;
@@ -227,7 +228,6 @@ module _ {facts : RoundFacts} {words : List ℕ} {state : RoundState} {history :
       view = refl;
       alone = λ alone. loads_known
           (ap (λ (facts : RoundFacts). facts.seats) (sym (round.fits.numbered old.number old there).same_round) ∙ alone);
-      so_far = names_row round old there place at bucket generation is;
     })
 
   -- the row is at home whichever way the place is seen

@@ -93,6 +93,7 @@ module _ {facts : RoundFacts} {words : List ℕ} {state : RoundState} {history :
         known = All-cons (IsPublished state.blocks) (known_block word (Generation generation)) old.known
             here (round.fits.known old.number old there);
         filled = round.filled old.number old there;
+        fixed = round.fixed old.number old there;
         grows = begun.front;
         front = prefix_refl history;
         heard = begun.heard;

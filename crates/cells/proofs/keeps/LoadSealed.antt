@@ -149,17 +149,30 @@ module _ {facts : RoundFacts} {words : List ℕ} {state : RoundState} {history :
   learned_published : All (IsPublished state.blocks) learned
   learned_published = learned_known state.blocks (named_by block k)
 
-  -- so far no known block names another,
-  no_link : (other : Published) → KnowsBlock old at other → link_of other ≡ 0
-  no_link (Generation generation) known = sound.so_far.first at generation known
-  no_link (Row row) known = sound.so_far.no_op at row known
-  no_link (Op op) known = refl
+  -- where the word names nothing, no row became known,
+  nothing_given : (k ≢ 1) ⊎ (link_of block ≡ 0) → All (IsGivenBlock facts.keys old.horizon) learned
+  nothing_given none = subst (All (IsGivenBlock facts.keys old.horizon))
+      (ap (learned_from state.blocks) (sym (names_nothing k block none))) (All-nil (IsGivenBlock facts.keys old.horizon))
 
-  -- so no row became known
+  -- nor where it names a predecessor, and so far it names no operation
+  second_given : (other : Published) → IsSealedWord old place at 1 other → link_of other ≡ link_of block
+      → All (IsGivenBlock facts.keys old.horizon) learned
+  second_given (Generation generation) word same = elim (ℕ_discrete generation.predecessor 0) [
+    | yes none ↦ nothing_given (inr (sym same ∙ none))
+    | no some_word ↦
+        let before = learns_predecessor at generation word some_word in
+        subst (All (IsGivenBlock facts.keys old.horizon)) (sym before.1)
+        (All-cons (IsGivenBlock facts.keys old.horizon) (known_block generation.predecessor (Generation before.0)) []
+        (λ row is. absurd (cc)) (All-nil (IsGivenBlock facts.keys old.horizon)))
+  ]
+  second_given (Row row) word same = nothing_given (inr (sym same ∙ sound.no_op at row word.known))
+  second_given (Op op) word same = nothing_given (inr (sym same))
+
   learned_given : All (IsGivenBlock facts.keys old.horizon) learned
-  learned_given = subst (All (IsGivenBlock facts.keys old.horizon))
-      (ap (learned_from state.blocks) (sym (names_nothing k block (inr (no_link block sealed.known)))))
-      (All-nil (IsGivenBlock facts.keys old.horizon))
+  learned_given = elim (ℕ_discrete k 1) [
+    | yes second ↦ second_given block (subst (λ (n : ℕ). IsSealedWord old place at n block) second sealed) refl
+    | no apart ↦ nothing_given (inl apart)
+  ]
 
   -- the only pass finds the head's generation still
   same_generation : facts.seats ≡ 1 → head_generation new_view ≡ head_generation old

@@ -49,6 +49,7 @@ module _ {facts : RoundFacts} {words : List ℕ} {state : RoundState} {history :
         same_round = refl;
         known = round.fits.known old.number old there;
         filled = round.filled old.number old there;
+        fixed = round.fixed old.number old there;
         grows = prefix_refl old.front;
         front = begun.front;
         heard = begun.heard;

@@ -10,7 +10,7 @@ use Rattle.atomic_table.specs.Table.{Step as TableStep}
 use Rattle.arena.proofs.laws.States.{updated-cases, updated-same}
 use Rattle.set_model.specs.declared.entry.Entry.{Entry}
 use Rattle.step_core.specs.Fits.{IsPublished}
-use Rattle.step_core.specs.Format.{mutable_word, row_address}
+use Rattle.step_core.specs.Format.{IsFrozen, mutable_word, row_address}
 use Rattle.step_core.specs.Ledger.{changed}
 use Rattle.step_core.specs.Rising.{Change, keys_after, keys_after_call}
 use Rattle.step_core.specs.States.{RoundState, IsGeneration}
@@ -18,14 +18,15 @@ use Rattle.step_core.specs.declared.kinds.Step.TheVariants.{SwapRow}
 use Rattle.step_core.specs.declared.published.Published.{Published}
 use Rattle.step_core.specs.declared.published.Published.TheVariants.{Generation, Row, Op}
 use Rattle.step_core.specs.declared.views.FilledBucket.{FilledBucket}
+use Rattle.step_core.specs.declared.views.FixedCell.{FixedCell}
 use Rattle.step_core.specs.declared.views.Known.{Known}
 use Rattle.step_core.specs.declared.views.PassView.{PassView}
 use Rattle.step_core.specs.declared.views.RoundFacts.{RoundFacts}
-use Rattle.step_core.proofs.changes.Named.{stays, filled_stays, result_stays, cell_cases}
+use Rattle.step_core.proofs.changes.Named.{stays, filled_stays, frozen_stays, result_stays, cell_cases}
 use Rattle.step_core.proofs.changes.Held.{content_same, ops_keep}
 use Rattle.step_core.proofs.lists.Histories.{keys_after-push}
 use Rattle.cells.specs.Exchanges.{swap_change, entry_by, MaySwapRow, SwapsRow}
-use Rattle.cells.specs.Invariant.{HoldsRound, IsFilled}
+use Rattle.cells.specs.Invariant.{HoldsRound, IsFilled, IsFrozenCell}
 use Rattle.cells.specs.Known.{known_block}
 use Rattle.cells.specs.Lone.{head_at, head_generation, is_untouched, first_generation, KnowsTable, ledger_of}
 use Rattle.cells.specs.Moves.{Moved, Moves, SwapTells, serial_of}
@@ -61,6 +62,18 @@ module _ {facts : RoundFacts} {words : List ℕ} {state : RoundState} {history :
   buckets_stay : (filled : List FilledBucket) → All (IsFilled state.cells) filled → All (IsFilled (after s).cells) filled
   buckets_stay filled = All-weaker (IsFilled state.cells) (IsFilled (after s).cells)
       (λ bucket some_row. filled_stays (names s) bucket.at bucket.bucket some_row) filled
+
+  -- a frozen cell is so
+  fixed_stay : (fixed : List FixedCell) → All (IsFrozenCell state.blocks state.cells) fixed
+      → All (IsFrozenCell (after s).blocks (after s).cells) fixed
+  fixed_stay fixed = All-weaker (IsFrozenCell state.blocks state.cells) (IsFrozenCell (after s).blocks (after s).cells)
+      (λ cell was. record {
+        generation = was.generation;
+        here = stays (names s) cell.at (Generation was.generation) was.here;
+        within = was.within;
+        frozen = was.frozen;
+        word = frozen_stays (names s) cell.at cell.place (subst IsFrozen (sym was.word) was.frozen) ∙ was.word;
+      }) fixed
 
   -- an operation that was decided is so, with the same entry
   decided : (from : ℕ) (block : Option Published) → state.blocks from ≡ block
@@ -121,6 +134,7 @@ module _ {facts : RoundFacts} {words : List ℕ} {state : RoundState} {history :
         numbered = sees.numbered;
         known = known_stays view.known sees.known;
         filled = buckets_stay view.filled sees.filled;
+        fixed = fixed_stay view.fixed sees.fixed;
         begun = record {
           front = prefix_trans view.front history (new_history s) sees.begun.front (entry s ∷ [], refl);
           heard = prefix_trans view.heard history (new_history s) sees.begun.heard (entry s ∷ [], refl);
@@ -203,6 +217,7 @@ module _ {facts : RoundFacts} {words : List ℕ} {state : RoundState} {history :
         numbered = record { same_round = was.numbered.same_round; is_pass = refl };
         known = row_known;
         filled = buckets_stay s.old.filled was.filled;
+        fixed = fixed_stay s.old.fixed was.fixed;
         begun = record {
           front = prefix_refl (new_history s);
           heard = prefix_trans s.old.heard history (new_history s) was.begun.heard (entry s ∷ [], refl);

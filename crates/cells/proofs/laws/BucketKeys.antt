@@ -45,7 +45,7 @@ module _ (place : ℕ) (old : PassView) (word : ℕ) (new : PassView) (loads : L
 
     -- So far it has no operation.
     load_bucket_plain : loads.row.op ≡ 0
-    load_bucket_plain = sound.so_far.no_op (row_address word) loads.row (load_bucket_knows place old word new loads filled)
+    load_bucket_plain = sound.no_op (row_address word) loads.row (load_bucket_knows place old word new loads filled)
 
     module _ (mutable : IsMutable word) where
       -- Of its class a mutable row has the keys that the set at the front has.

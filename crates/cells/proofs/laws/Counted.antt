@@ -23,5 +23,5 @@ sound_counted view made sound = record {
   hands_unknown = λ at other place word too. sound.hands_unknown at other place (record { begun = word.begun; within = word.within })
       (record { block = too.block; known = too.known; begun = too.begun; within = too.within });
   lone = sound.lone;
-  so_far = record { first = sound.so_far.first; no_op = sound.so_far.no_op };
+  no_op = sound.no_op;
 }

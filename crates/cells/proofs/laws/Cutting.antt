@@ -115,10 +115,7 @@ fresh_sound facts number small lt = record {
   hands_apart = λ at other place inside also. absurd (omega (arith, inside.begun, inside.within));
   hands_unknown = λ at other place inside also. absurd (omega (arith, inside.begun, inside.within));
   lone = λ alone. refl;
-  so_far = record {
-    first = λ at generation knows. absurd (omega (arith, knows.1));
-    no_op = λ at row knows. absurd (omega (arith, knows.1));
-  };
+  no_op = λ at row knows. absurd (omega (arith, knows.1));
 }
 
 -- and so is the pass that has it

@@ -198,5 +198,5 @@ ends_round facts passes id seat words slots is_seat once begun_calls final =
       all = all_views views passes facts.seats holds.fits.passes there once;
       serials = begun_calls;
       members = round_members ended;
-      plain = plain_rows ended.fits.holds ended.so_far.no_op;
+      plain = plain_rows ended.fits.holds ended.no_op;
     }

@@ -22,7 +22,6 @@ use Rattle.step_core.proofs.seen.Held.{live_even, is_held-row, row_content-plain
 use Rattle.cells.specs.Invariant.{HoldsRound, IsFilled}
 use Rattle.cells.specs.Known.{known_block, IsBucketWord, KnowsGeneration}
 use Rattle.cells.specs.Lone.{head_at, head_generation, is_among, is_untouched}
-use Rattle.cells.specs.SoFar.{NamesMutableRow}
 use Rattle.cells.specs.Steps.{AgreesWithHistory}
 use Rattle.cells.proofs.laws.Paid.{both_true, same_numbers}
 use Rattle.cells.proofs.laws.Sound.{sound_view}
@@ -99,15 +98,6 @@ module _ {facts : RoundFacts} {words : List ℕ} {state : RoundState} {history :
       (λ none. let at_none : at ≡ 0 = sym behind ∙ none in absurd (omega (arith, low, at_none))) in
       subst (λ (w : ℕ). ¬ IsNil w) spot_is
       (round.fits.holds.chain.filled at generation bucket published (inl (λ same. follows.not_head (behind ∙ same))))
-
-  -- so far it is a bucket of the only generation, so it names a mutable row
-  pub names_row : NamesMutableRow word
-  names_row = record {
-    some_row = finds_filled (inr (round.so_far.first at generation published));
-    mutable = subst (λ (w : ℕ). IsMutable w) (sym word_is)
-        (subst (λ (a : ℕ). IsMutable (state.cells a bucket)) (sym (round.so_far.only at generation published))
-        (round.fits.holds.chain.mutable bucket));
-  }
 
   -- a mutable row without an operation agrees on its class with the set after the history
   pub row_agrees : (row : RowBlock) → (¬ IsNil word → IsRow state.blocks (row_address word) row) → row.exponent ≡ generation.exponent

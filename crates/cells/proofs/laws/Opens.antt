@@ -24,13 +24,13 @@ use Rattle.step_core.proofs.tables.Plain.{generation_there, each_block, each_gen
 use Rattle.step_core.proofs.tables.Written.{length-opening_of}
 use Rattle.step_core.proofs.tables.Fitting.{table_state}
 use Rattle.cells.specs.Begins.{MayBegin, IsOpeningOf, facts_from}
-use Rattle.cells.specs.Invariant.{IsFilled, KnowsFilled, HoldsRound}
+use Rattle.cells.specs.Invariant.{IsFilled, IsFrozenCell, KnowsFilled, KnowsFixed, HoldsRound}
 use Rattle.cells.specs.Lone.{KnowsAlone, first_generation}
 use Rattle.cells.specs.Modeled.{IsRound}
 use Rattle.cells.specs.Paid.{wins_of, IsPaid}
 use Rattle.cells.specs.Past.{HoldsHistory, BeginsHistory, OwnsEntries, IsOfPasses, UsesSerials, HasGivenKeys, IsGivenBlock, KnowsGiven}
 use Rattle.cells.specs.Hindsight.{HasStood, StoodInHead, StoodInSources, HasHindsight}
-use Rattle.cells.specs.SoFar.{HasOneGeneration}
+use Rattle.cells.specs.SoFar.{HasNoOp}
 use Rattle.cells.specs.Sound.{AreFacts}
 use Rattle.cells.specs.Seats.{IsRuled, IsSeat, AreSeated, SpeaksFor, facts_of, first_seat}
 use Rattle.cells.specs.declared.round.Round.TheInside as round
@@ -135,13 +135,9 @@ module _ (seats cap : ℕ) (keys : List ℕ) (rising : IsStrictlyIncreasing keys
   first_there : IsGeneration state.blocks (base_of seats) (first_generation facts)
   first_there = generation_there is_table
 
-  -- no other address has one, and no operation is published
-  one_generation : HasOneGeneration state.head state.blocks
-  one_generation = record {
-    only = each_generation is_table (λ at generation. at ≡ state.head) refl;
-    first = each_generation is_table (λ at generation. generation.predecessor ≡ 0) refl;
-    no_op = λ at op there. each_block is_table (λ at block. block ≡ Op op → ⊥) (λ e. cc) (λ bucket low e. cc) at (Op op) there refl;
-  }
+  -- no operation is published
+  no_op : HasNoOp state.blocks
+  no_op at op there = each_block is_table (λ at block. block ≡ Op op → ⊥) (λ e. cc) (λ bucket low e. cc) at (Op op) there refl
 
   -- an opening holds with no history
   pub opening_holds : HoldsRound facts words state []
@@ -156,6 +152,7 @@ module _ (seats cap : ℕ) (keys : List ℕ) (rising : IsStrictlyIncreasing keys
       turn = λ turn there. cc;
     });
     filled = each_fresh (KnowsFilled state.cells) facts (λ pass. All-nil (IsFilled state.cells));
+    fixed = each_fresh (KnowsFixed state.blocks state.cells) facts (λ pass. All-nil (IsFrozenCell state.blocks state.cells));
     hindsight = each_fresh (HasHindsight keys state.blocks state.cells []) facts (λ pass. record {
       marks = All-nil (HasStood keys state.blocks state.cells []);
       heads = All-nil (StoodInHead keys state.blocks state.cells []);
@@ -167,7 +164,7 @@ module _ (seats cap : ℕ) (keys : List ℕ) (rising : IsStrictlyIncreasing keys
       generation = first_there;
       nil = λ bucket within test. absurd (cc);
     });
-    so_far = one_generation;
+    no_op = no_op;
   }
 
   -- and keeps the rule with the first table seat

@@ -22,7 +22,7 @@ use Rattle.step_core.specs.declared.views.RoundFacts.{RoundFacts}
 use Rattle.cells.specs.Invariant.{HoldsRound}
 use Rattle.cells.specs.Known.{known_block, KnowsBlock, KnowsRow}
 use Rattle.cells.specs.Past.{HasGivenKeys, IsGivenBlock, flying_entry}
-use Rattle.cells.specs.SoFar.{KnowsOneGeneration}
+use Rattle.cells.specs.SoFar.{KnowsNoOp}
 use Rattle.cells.specs.Sound.{IsInArena, IsInHand, IsInBlock, AreFacts, IsSound}
 use Rattle.cells.proofs.laws.LoneRound.{lone_lost}
 use Rattle.cells.proofs.parts.PutState.{there_inside}
@@ -110,12 +110,12 @@ module _ {facts : RoundFacts} {words : List ℕ} {state : RoundState} {history :
       (round.fits.holds.homes at row (is_published at (Row row) known)).holds
 
   -- a known row has no operation, as none is published
-  row_plain : (at : ℕ) (row : RowBlock) → KnowsRow view at row → row.op ≡ 0
+  row_plain : KnowsNoOp view
   row_plain at row known = elim (ℕ_discrete row.op 0) [
     | yes plain ↦ plain
     | no named ↦
         let op = (round.fits.holds.homes at row (is_published at (Row row) known)).op named in
-        absurd (round.so_far.no_op row.op op.op op.there)
+        absurd (round.no_op row.op op.op op.there)
   ]
 
   -- the pass's entries in the history are those of its answered calls, and maybe one more, so their serials are used
@@ -123,13 +123,6 @@ module _ {facts : RoundFacts} {words : List ℕ} {state : RoundState} {history :
   mine_used = All-front (λ (entry : Entry). entry.serial < view.used) view.mine (flying_entry state.blocks state.cells view.flight)
       (subst (λ (list : List Entry). All (λ entry. entry.serial < view.used) list) (round.past.own number view is_view)
       (round.past.used number view is_view))
-
-  -- so far the round has one generation, and the view knows no other
-  one_generation : KnowsOneGeneration view
-  one_generation = record {
-    first = λ at generation known. round.so_far.first at generation (is_published at (Generation generation) known);
-    no_op = row_plain;
-  }
 
   -- at one address one block is known
   one_there : (at : ℕ) (block other : Published) → KnowsBlock view at block → KnowsBlock view at other → block ≡ other
@@ -163,5 +156,5 @@ module _ {facts : RoundFacts} {words : List ℕ} {state : RoundState} {history :
         hands_unknown = λ at other place word too. hands_are_unpublished sealed_words open_words hands_of laid number at other place
             (hand_word at place word) (block_word other place too);
         lone = λ alone. lone_lost round number view is_view (ap (λ (facts : RoundFacts). facts.seats) (sym same_round) ∙ alone);
-        so_far = one_generation;
+        no_op = row_plain;
       }

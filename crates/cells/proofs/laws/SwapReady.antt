@@ -37,7 +37,7 @@ module _ (place at bucket word hand : ℕ) (generation : GenerationBlock) (befor
   named_known = subst (KnowsRow now (row_address word)) (sym named) row_known
 
   plain : (named_row now word).op ≡ 0
-  plain = sound_now.so_far.no_op (row_address word) (named_row now word) named_known
+  plain = sound_now.no_op (row_address word) (named_row now word) named_known
 
   -- the open turn has the load
   among : (open_now : OpenTurn) × (loaded.turn ≡ Some open_now) × (open_now.head ≡ turn.head) × (open_now.seen ≡ turn.seen)

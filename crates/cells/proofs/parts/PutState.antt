@@ -10,18 +10,17 @@ use Rattle.set_model.specs.Keys.{is_in}
 use Rattle.set_model.specs.declared.entry.Entry.{Entry}
 use Rattle.step_core.specs.Fits.{AnnouncesOps, HoldsBlocks, IsAccount, IsOfRound, KnowsPublished}
 use Rattle.step_core.specs.Members.{HoldsMembers}
-use Rattle.step_core.specs.States.{RoundState, Each, IsGeneration, IsRow, IsOp}
+use Rattle.step_core.specs.States.{RoundState, Each, IsRow}
 use Rattle.step_core.specs.declared.published.RowBlock.{RowBlock}
 use Rattle.step_core.specs.declared.published.Published.{Published}
-use Rattle.step_core.specs.declared.published.GenerationBlock.{GenerationBlock}
-use Rattle.step_core.specs.declared.published.OpBlock.{OpBlock}
 use Rattle.step_core.specs.declared.views.PassView.{PassView}
 use Rattle.step_core.specs.declared.views.RoundFacts.{RoundFacts}
-use Rattle.cells.specs.Invariant.{HoldsRound, KnowsFilled}
+use Rattle.cells.specs.Invariant.{HoldsRound, KnowsFilled, KnowsFixed}
 use Rattle.cells.specs.Lone.{KnowsAlone}
 use Rattle.cells.specs.Paid.{IsPaid, wins_of}
 use Rattle.cells.specs.Past.{BeginsHistory, IsSeenWhole, OwnsEntries, IsOfPasses, IsInOrder, KnowsGiven, UsesSerials, HasGivenKeys}
 use Rattle.cells.specs.Hindsight.{HasHindsight}
+use Rattle.cells.specs.SoFar.{HasNoOp}
 
 -- what stands at a place of a list stands inside it
 pub there_inside : {A : Type 0} (list : List A) (place : ℕ) (item : A) → get_elem? list place ≡ some item → place < length list
@@ -71,6 +70,7 @@ pub record Sees (facts : RoundFacts) (head : ℕ) (blocks : ℕ → Option Publi
   pub numbered : IsOfRound facts pass view
   pub known : KnowsPublished blocks pass view
   pub filled : KnowsFilled cells pass view
+  pub fixed : KnowsFixed blocks cells pass view
   pub begun : BeginsHistory history pass view
   pub own : OwnsEntries blocks cells history pass view
   pub used : UsesSerials history pass view
@@ -89,9 +89,7 @@ pub record Stands (facts : RoundFacts) (words : List ℕ) (state : RoundState) (
   pub legal : IsLegal (is_in facts.keys) history
   pub who : All (IsOfPasses facts.seats) history
   pub ordered : (pass : ℕ) → IsInOrder history pass
-  pub only : (at : ℕ) (generation : GenerationBlock) → IsGeneration state.blocks at generation → at ≡ state.head
-  pub first : (at : ℕ) (generation : GenerationBlock) → IsGeneration state.blocks at generation → generation.predecessor ≡ 0
-  pub no_op : (at : ℕ) (op : OpBlock) → IsOp state.blocks at op → ⊥
+  pub no_op : HasNoOp state.blocks
 
 -- where the invariant holds, each view sees what it owes
 pub each_sees : {facts : RoundFacts} {words : List ℕ} {state : RoundState} {history : List Entry} → HoldsRound facts words state history
@@ -100,6 +98,7 @@ each_sees round pass view there = record {
   numbered = round.fits.numbered pass view there;
   known = round.fits.known pass view there;
   filled = round.filled pass view there;
+  fixed = round.fixed pass view there;
   begun = round.past.begun pass view there;
   own = round.past.own pass view there;
   used = round.past.used pass view there;
@@ -155,11 +154,8 @@ module _ {facts : RoundFacts} {words : List ℕ} {state : RoundState} {history :
       members = stands.members;
       paid = λ pass view is. (each_sees_after pass view is).paid;
       filled = λ pass view is. (each_sees_after pass view is).filled;
+      fixed = λ pass view is. (each_sees_after pass view is).fixed;
       hindsight = λ pass view is. (each_sees_after pass view is).hindsight;
       alone = λ pass view is. (each_sees_after pass view is).alone;
-      so_far = record {
-        only = stands.only;
-        first = stands.first;
-        no_op = stands.no_op;
-      };
+      no_op = stands.no_op;
     }

@@ -14,7 +14,7 @@ use Rattle.step_core.specs.States.{RoundState, AreLaidOut}
 use Rattle.step_core.specs.declared.published.Published.{Published}
 use Rattle.step_core.specs.declared.views.PassView.{PassView}
 use Rattle.step_core.specs.declared.views.RoundFacts.{RoundFacts}
-use Rattle.cells.specs.Invariant.{HoldsRound, KnowsFilled}
+use Rattle.cells.specs.Invariant.{HoldsRound, KnowsFilled, KnowsFixed}
 use Rattle.cells.specs.Lone.{KnowsAlone}
 use Rattle.cells.specs.Moves.{Moved}
 use Rattle.cells.specs.Paid.{IsPaid, wins_of}
@@ -35,6 +35,7 @@ pub record Goes (facts : RoundFacts) (head : ℕ) (blocks : ℕ → Option Publi
   pub same_round : new.facts ≡ old.facts
   pub known : KnowsPublished blocks old.number new
   pub filled : KnowsFilled cells old.number new
+  pub fixed : KnowsFixed blocks cells old.number new
   pub grows : IsPrefix old.front new.front
   pub front : IsPrefix new.front history
   pub heard : IsPrefix new.heard history
@@ -60,9 +61,7 @@ stands round = record {
   legal = round.past.legal;
   who = round.past.who;
   ordered = round.past.ordered;
-  only = round.so_far.only;
-  first = round.so_far.first;
-  no_op = round.so_far.no_op;
+  no_op = round.no_op;
 }
 
 module _ (views : List PassView) (number : ℕ) (old new : PassView) (there : get_elem? views number ≡ some old) where
@@ -119,6 +118,7 @@ module _ {facts : RoundFacts} {words : List ℕ} {state : RoundState} {history :
         numbered = record { same_round = goes.same_round ∙ was.numbered.same_round; is_pass = goes.number };
         known = goes.known;
         filled = goes.filled;
+        fixed = goes.fixed;
         begun = record { front = goes.front; heard = goes.heard; horizon = goes.horizon };
         own = was.own ∙ (λ k. sym goes.mine k ++ flying_entry state.blocks state.cells (sym goes.flight k));
         used = subst (λ (used : ℕ). UsesSerials history old.number (record old { used = used })) (sym goes.used) was.used;
@@ -151,9 +151,7 @@ module _ {facts : RoundFacts} {words : List ℕ} {state : RoundState} {history :
         legal = round.past.legal;
         who = round.past.who;
         ordered = round.past.ordered;
-        only = round.so_far.only;
-        first = round.so_far.first;
-        no_op = round.so_far.no_op;
+        no_op = round.no_op;
       })
       account
       (whole_stays state.views old.number old new there history goes.grows goes.front round.past.whole)

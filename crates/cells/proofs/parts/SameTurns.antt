@@ -49,6 +49,7 @@ module _ {facts : RoundFacts} {words : List ℕ} {state : RoundState} {history :
         same_round = refl;
         known = known;
         filled = round.filled old.number old there;
+        fixed = round.fixed old.number old there;
         grows = grows;
         front = front;
         heard = heard;

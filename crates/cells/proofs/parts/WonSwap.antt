@@ -31,7 +31,7 @@ use Rattle.step_core.specs.declared.published.RowBlock.{RowBlock}
 use Rattle.step_core.specs.declared.views.PassView.{PassView}
 use Rattle.step_core.specs.declared.views.RoundFacts.{RoundFacts}
 use Rattle.step_core.proofs.changes.Members.{changes_members, members_changed}
-use Rattle.step_core.proofs.changes.Named.{Names, homes_stay, announces_stay, stays, row_was, generation_was, op_was}
+use Rattle.step_core.proofs.changes.Named.{Names, homes_stay, announces_stay, stays, row_was, op_was}
 use Rattle.step_core.proofs.changes.Replaced.{Replaces, replacing, chain_replaced}
 use Rattle.step_core.proofs.seen.Held.{row_content-plain}
 use Rattle.step_core.proofs.seen.Shown.{some_word}
@@ -107,7 +107,7 @@ module _ {facts : RoundFacts} {words : List ℕ} {state : RoundState} {history :
       (round.fits.known old.number old there) may.known
 
   before_plain : before.op ≡ 0
-  before_plain = sound.so_far.no_op (row_address word) before may.known
+  before_plain = sound.no_op (row_address word) before may.known
 
   before_holds : HoldsClass before
   before_holds = sound.rows (row_address word) before may.known
@@ -256,7 +256,5 @@ module _ {facts : RoundFacts} {words : List ℕ} {state : RoundState} {history :
         (All-cons (IsOfPasses facts.seats) entry []
         (omega (arith, own, there_inside state.views old.number old there, round.fits.passes)) (All-nil (IsOfPasses facts.seats)));
     ordered = ordered;
-    only = λ from other here. round.so_far.only from other (generation_was names from other here);
-    first = λ from other here. round.so_far.first from other (generation_was names from other here);
-    no_op = λ from op here. round.so_far.no_op from op (op_was names from op here);
+    no_op = λ from op here. round.no_op from op (op_was names from op here);
   }

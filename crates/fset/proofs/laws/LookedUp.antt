@@ -36,7 +36,7 @@ module _ (key head at : ℕ) (v0 v1 v2 v3 : PassView) (seen : Seen) (heads : Loa
     (reads : ReadsRow at v2 seen v3) (sound : IsSound v3) where
   -- so far the row has no operation
   plain : seen.op ≡ 0
-  plain = reads.agrees.op ∙ sound.so_far.no_op seen.at (row_at v3.known seen.at) reads.agrees.known
+  plain = reads.agrees.op ∙ sound.no_op seen.at (row_at v3.known seen.at) reads.agrees.known
 
   -- so reading it tells nothing new of blocks
   grown : Grows [] 0 0 v2 v3

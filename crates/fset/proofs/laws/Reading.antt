@@ -81,7 +81,7 @@ seen_keys-plain view seen plain =
 pub seen_keys_are : (loads : ℕ) (old new : PassView) (seen : Seen) → IsSound old → IsSeen old seen → new ≡ after_reads loads old
     → seen_keys old seen ≡ keys_at new seen.at
 seen_keys_are loads old new seen sound agrees same =
-    seen_keys-plain old seen (agrees.op ∙ sound.so_far.no_op seen.at (row_at old.known seen.at) agrees.known)
+    seen_keys-plain old seen (agrees.op ∙ sound.no_op seen.at (row_at old.known seen.at) agrees.known)
     ∙ sym (ap (λ (view : PassView). keys_at view seen.at) same)
 
 module _ (at : ℕ) (old : PassView) (known : KnowsRowAt old at) (word : ℕ) (new : PassView) where

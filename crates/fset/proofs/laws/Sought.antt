@@ -75,7 +75,7 @@ module _ (key : ℕ) (v0 v1 v2 : PassView) (bucket : LoadedBucket) (seen : Seen)
 
   -- so far it has no operation
   plain : seen.op ≡ 0
-  plain = reads.agrees.op ∙ sound_now.so_far.no_op seen.at (row_at v2.known seen.at) reads.agrees.known
+  plain = reads.agrees.op ∙ sound_now.no_op seen.at (row_at v2.known seen.at) reads.agrees.known
 
   -- so reading it tells nothing new
   grown : Grows [] 0 0 v1 v2

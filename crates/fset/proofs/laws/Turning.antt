@@ -134,7 +134,7 @@ module _ (key : ℕ) (call : Call) (v0 v1 v2 : PassView) (sought : Sought) (seek
 
   -- so far no row has an operation
   plain : (row_at v2.known at).op ≡ 0
-  plain = sound.so_far.no_op at (row_at v2.known at) way.seen.known
+  plain = sound.no_op at (row_at v2.known at) way.seen.known
 
   rising : IsStrictlyIncreasing keys
   rising = (sound.rows at (row_at v2.known at) way.seen.known).rising

@@ -9,5 +9,5 @@ returns-clause-answer c =
     let view = c.args.pass.now.view in
     let seen = c.args.seen.now in
     let knows = c.requires.knows in
-    let plain = knows.op ∙ c.sound.ensures.view.so_far.no_op seen.at (row_at view.known seen.at) knows.known in
+    let plain = knows.op ∙ c.sound.ensures.view.no_op seen.at (row_at view.known seen.at) knows.known in
     c.place_among.ensures.taken ∙ sym (seen_content-plain view seen c.args.key plain)

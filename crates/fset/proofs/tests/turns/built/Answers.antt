@@ -13,7 +13,7 @@ build_changed-block-requires-clause-changes c =
     let old = c.args.pass.now.view in
     let new = c.find-found.new.pass.view in
     let seen = c.args.seen.now in
-    let plain = c.requires.knows.op ∙ c.sound.ensures.view.so_far.no_op seen.at (row_at old.known seen.at) c.requires.knows.known in
+    let plain = c.requires.knows.op ∙ c.sound.ensures.view.no_op seen.at (row_at old.known seen.at) c.requires.knows.known in
     let found = c.find-found.ensures.answer ∙ seen_content-plain old seen c.args.key plain
     ∙ sym (ap (λ (view : PassView). is_in (keys_at view seen.at) c.args.key) c.find-found.ensures.view) in
     subst (ChangesKeys c.args.call c.args.key) (sym (seen_keys-plain new seen plain))

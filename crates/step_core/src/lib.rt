@@ -36,7 +36,7 @@ pub use layout::{Layout, Plan};
 pub use openings::opening;
 pub use published::{GenerationBlock, OpBlock, Published, RowBlock};
 pub use reading::{exponent_of, live_keys};
-pub use spots::{bucket_of, spot};
+pub use spots::{bucket_count, bucket_of, spot};
 pub use stepping::step;
 pub use views::{
     AnnounceLoad, BlockTicket, BucketLoad, Event, FilledBucket, FixedCell, HeadLoad, Known, Mark,

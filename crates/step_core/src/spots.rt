@@ -13,9 +13,9 @@ pub fn spot(key: u64) -> u32
     (key.wrapping_mul(SPOT_FACTOR) >> 32) as u32
 }
 
-/// The number of buckets of a generation of this exponent.
+/// The number of buckets of a generation of this exponent, which is at most 24.
 #[tactic(auto, using(crate::proofs::seen::Spots::sizes))]
-pub(crate) fn bucket_count(exponent: u32) -> u64
+pub fn bucket_count(exponent: u32) -> u64
     requires { exponent ≤ max_exponent }
     ensures count { result ≡ 2 ^ exponent }
     ensures small { 2 ^ exponent ≤ 2 ^ max_exponent }

@@ -116,7 +116,7 @@ same_members_are_one one other rises too same =
     set.contains-from_list_nat one key ∙ same key ∙ sym (set.contains-from_list_nat other key)))
 
 -- what a list has is a key of the class where all its keys are
-class_has : (exponent bucket : ℕ) (list : List ℕ) (key : ℕ) → All (InClass exponent bucket) list → is_in list key ≡ true
+pub class_has : (exponent bucket : ℕ) (list : List ℕ) (key : ℕ) → All (InClass exponent bucket) list → is_in list key ≡ true
     → InClass exponent bucket key
 class_has exponent bucket [] key all here = absurd (cc)
 class_has exponent bucket (first ∷ list) key all here = elim (cases_Bool (nat_eq first key)) [
@@ -126,7 +126,7 @@ class_has exponent bucket (first ∷ list) key all here = elim (cases_Bool (nat_
 ]
 
 -- so it lacks each key of another class
-class_lacks : (exponent bucket : ℕ) (list : List ℕ) (key : ℕ) → All (InClass exponent bucket) list → (InClass exponent bucket key → ⊥)
+pub class_lacks : (exponent bucket : ℕ) (list : List ℕ) (key : ℕ) → All (InClass exponent bucket) list → (InClass exponent bucket key → ⊥)
     → is_in list key ≡ false
 class_lacks exponent bucket list key all other = elim (cases_Bool (is_in list key)) [
   | inl here ↦ absurd (other (class_has exponent bucket list key all here))

@@ -6,7 +6,14 @@ pub mod Built
 pub mod Taking
 pub mod Splitting
 pub mod Joining
+pub mod Closing
+pub mod Sources
+pub mod Filling
+pub mod FilledByOne
+pub mod FilledByTwo
+pub mod Naming
 pub mod Looking
+pub mod Ensuring
 pub mod Meeting
 pub mod LookedUp
 pub mod Sought

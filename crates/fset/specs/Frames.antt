@@ -1,7 +1,9 @@
 -- What calls leave of a pass's view, told so that it adds up: what a call learned, drew and lost is
 -- exact, and the front and what else is known of the round only grew.
-use Rattle.std.specs.Prelude.{◌≡◌, ℕ, ◌+◌, ◌*◌, ◌≤◌, max, List, [], ◌∷◌, ◌++◌, length, Option, Some, None}
+use Rattle.std.specs.Prelude.{◌≡◌, ℕ, ◌+◌, ◌*◌, ◌≤◌, max, true, List, [], ◌∷◌, ◌++◌, length, Contains, Option, Some, None}
+use Rattle.std.specs.List.Sorted.{IsStrictlyIncreasing}
 use mathlib.Core.List.{IsPrefix}
+use Rattle.set_model.specs.Keys.{is_in}
 use Rattle.step_core.specs.declared.format.TheConstants.{FIRST_KEY}
 use Rattle.step_core.specs.declared.published.Published.{Published}
 use Rattle.step_core.specs.declared.published.Published.TheVariants.{Generation, Row, Op}
@@ -9,6 +11,7 @@ use Rattle.step_core.specs.declared.published.RowBlock.{RowBlock}
 use Rattle.step_core.specs.declared.views.Known.{Known}
 use Rattle.step_core.specs.declared.views.PassView.{PassView}
 use Rattle.cells.specs.Frames.{OnlyReads}
+use Rattle.cells.specs.Known.{known_block}
 
 -- the new list is the old one with something in front
 abbrev pub IsBehind : {A : Type 0} → List A → List A → Type 0
@@ -58,17 +61,34 @@ latest_row (known ∷ others) = row_or known.block (latest_row others)
 abbrev pub row_cost : ℕ → ℕ
 row_cost width = FIRST_KEY + width
 
--- the most words that so many turns draw, by the widest row that they read or published
+-- the most words that are drawn to fill a bucket from its sources, by the wider of their rows
+abbrev pub filling_cost : ℕ → ℕ
+filling_cost width = FIRST_KEY + 2 * width
+
+-- the most words that so many turns draw, by the widest row that they read, published, or wrote
 abbrev pub turns_cost : ℕ → ℕ → ℕ
 turns_cost turns width = turns * (2 * width + 8)
 
+-- the key is one of a row among these blocks
+abbrev pub IsKeyOf : List Known → ℕ → Type 0
+IsKeyOf blocks key = (at : ℕ) × (row : RowBlock) × Contains blocks (known_block at (Row row))
+    × (is_in row.keys key ≡ true)
+
+-- the keys of a row that is among these blocks, or that was written of keys of such
+pub record AreKeysOf (blocks : List Known) (keys : List ℕ) : Type 0 where
+  pub rising : IsStrictlyIncreasing keys
+  pub from : (key : ℕ) → is_in keys key ≡ true → IsKeyOf blocks key
+
 -- A call grew the view and lost so many turns. What it drew is bounded by the widest row that it
--- read or published.
+-- read, published, or wrote.
 pub record Spends (cost : ℕ → ℕ) (losses : ℕ) (old new : PassView) : Type 0 where
   pub learned : List Known
   pub words : ℕ
   pub grows : Grows learned words losses old new
-  pub bound : words ≤ cost (widest learned)
+  -- the keys of that row
+  pub wide : List ℕ
+  pub keys : AreKeysOf learned wide
+  pub bound : words ≤ cost (length wide)
 
 -- So many sealed words were loaded, these blocks became known, and nothing else changed but that
 -- the front may reach further. So told, readings add up.

@@ -7,5 +7,6 @@ pub mod Splitting
 pub mod Joining
 pub mod Seeking
 pub mod Looking
+pub mod Ensuring
 pub mod Standing
 pub mod Turns

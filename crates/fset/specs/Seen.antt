@@ -41,8 +41,9 @@ pub record ReadsRow (at : ℕ) (old : PassView) (seen : Seen) (new : PassView) :
   pub agrees : IsSeen new seen
   pub learned : List Known
   pub reads : Reads learned 2 old new
-  -- a row without an operation makes nothing known
+  -- a row without an operation makes nothing known, nor any cell to change no more
   pub nothing : seen.op ≡ 0 → learned ≡ []
+  pub unfixed : seen.op ≡ 0 → new.fixed ≡ old.fixed
   -- and one with an operation that operation alone, whose result isn't loaded
   pub learns_op : seen.op ≢ 0 → (op : OpBlock) × (learned ≡ known_block seen.op (Op op) ∷ [])
   pub unread : seen.result ≡ 0

@@ -18,6 +18,7 @@
 
 mod content;
 mod copying;
+mod ensuring;
 mod joining;
 mod looking;
 mod outcomes;
@@ -29,6 +30,7 @@ mod taking;
 mod turns;
 
 pub use content::find;
+pub use ensuring::ensure;
 pub use joining::build_joined;
 pub use looking::look_up;
 pub use outcomes::{Answered, Outcome, Turn};

@@ -1,9 +1,13 @@
 -- What calls leave of a pass's view adds up: what the first learned, drew and lost, and then the second.
-use Rattle.std.proofs.Common.{◌≡◌, ℕ, ◌+◌, ◌*◌, ◌≤◌, List, [], ◌∷◌, ◌++◌, length, Option, Some, refl, sym, ap, ◌∙◌, subst, append_assoc, add-zero, arith}
+use Rattle.std.proofs.Common.{◌≡◌, ℕ, ◌+◌, ◌*◌, ◌≤◌, true, inl, inr, ◌⊎◌, ⊎_elim, Contains, List, [], ◌∷◌, ◌++◌, length, Option, Some, refl, sym, ap, ◌∙◌, subst, append_assoc, add-zero, zero-add, arith}
 use mathlib.Core.List.{IsPrefix}
 use base.Growing.{prefix_refl, prefix_trans}
 use Rattle.std.proofs.Math.Nat.{le-max_left, le-max_right, max-le}
+use Rattle.std.proofs.lemmas.Bool.{cases_lt}
+use Rattle.std.proofs.lemmas.List.Elements.{Contains-append_left, Contains-append_right}
 use Rattle.std.proofs.lemmas.Nat.{mul-le}
+use Rattle.std.specs.List.Sorted.{IsStrictlyIncreasing}
+use Rattle.set_model.specs.Keys.{is_in}
 use Rattle.set_model.specs.declared.entry.Entry.{Entry}
 use Rattle.step_core.specs.declared.published.Published.{Published}
 use Rattle.step_core.specs.declared.published.Published.TheVariants.{Generation, Row, Op}
@@ -12,7 +16,7 @@ use Rattle.step_core.specs.declared.views.Known.{Known}
 use Rattle.step_core.specs.declared.views.PassView.{PassView}
 use Rattle.cells.specs.Frames.{OnlyDraws, after_reads}
 use Rattle.cells.specs.Known.{known_block}
-use Rattle.fset.specs.Frames.{IsBehind, Grows, KeepsOwn, Spends, latest_row, row_or, turns_cost, width_of, widest}
+use Rattle.fset.specs.Frames.{AreKeysOf, IsBehind, Grows, KeepsOwn, Spends, latest_row, row_or, turns_cost, width_of, widest}
 use Rattle.fset.specs.Standing.{HasPast}
 
 -- A list is behind itself, and behind what is behind one that it is behind.
@@ -138,17 +142,114 @@ latest_row-append first [] row latest = absurd (cc)
 latest_row-append first (known ∷ second) row latest =
     by_block known.block (latest_row second) (latest_row (second ++ first)) row latest (latest_row-append first second row)
 
+-- Keys of rows among some blocks are so among more,
+pub keys_of-more : (more blocks : List Known) (keys : List ℕ) → AreKeysOf blocks keys → AreKeysOf (more ++ blocks) keys
+keys_of-more more blocks keys of = record {
+  rising = of.rising;
+  from = λ key here. let row = of.from key here in
+      (row.0, row.1, Contains-append_right more blocks (known_block row.0 (Row row.1)) row.2, row.3);
+}
+
+-- also where the others were learned before.
+pub keys_of-behind : (blocks others : List Known) (keys : List ℕ) → AreKeysOf blocks keys → AreKeysOf (blocks ++ others) keys
+keys_of-behind blocks others keys of = record {
+  rising = of.rising;
+  from = λ key here. let row = of.from key here in
+      (row.0, row.1, Contains-append_left blocks others (known_block row.0 (Row row.1)) row.2, row.3);
+}
+
+-- No keys are the keys of any rows,
+pub keys_of-none : (blocks : List Known) → AreKeysOf blocks []
+keys_of-none blocks = record { rising = (λ k within. absurd (omega (arith, within))); from = λ key here. absurd (cc) }
+
+-- and those of a row among the blocks are.
+pub keys_of-row : (blocks : List Known) (at : ℕ) (row : RowBlock) → Contains blocks (known_block at (Row row)) → IsStrictlyIncreasing row.keys
+    → AreKeysOf blocks row.keys
+keys_of-row blocks at row there rising = record { rising = rising; from = λ key here. (at, row, there, here) }
+
+-- the longer of two lists
+pub record IsLonger (one two all : List ℕ) : Type 0 where
+  pub first : length one ≤ length all
+  pub second : length two ≤ length all
+  pub which : (all ≡ one) ⊎ (all ≡ two)
+
+pub longer : (one two : List ℕ) → (all : List ℕ) × IsLonger one two all
+longer one two =
+    let Longer : Type 0 = (all : List ℕ) × IsLonger one two all in
+    elim (cases_lt (length one) (length two)) as (λ _. Longer) [
+      | inl less ↦ (two, record { first = omega (arith, less); second = omega arith; which = inr refl })
+      | inr more ↦ (one, record { first = omega arith; second = omega (arith, more); which = inl refl })
+    ]
+
+-- The keys of rows that were learned first, or then, are keys of rows that were learned.
+pub keys_of-either : (first second : List Known) (one two all : List ℕ) → AreKeysOf first one → AreKeysOf second two
+    → (all ≡ one) ⊎ (all ≡ two) → AreKeysOf (second ++ first) all
+keys_of-either first second one two all of other which = ⊎_elim
+    (λ (is : all ≡ one). subst (AreKeysOf (second ++ first)) (sym is) (keys_of-more second first one of))
+    (λ (is : all ≡ two). subst (AreKeysOf (second ++ first)) (sym is) (keys_of-behind second first two other))
+    which
+
+-- What one call spent, and then another, is what both may, where their costs add up so.
+abbrev pub spends_both : (cost more sum : ℕ → ℕ) (losses lost total : ℕ) (old between new : PassView) → losses + lost ≡ total
+    → ((words others one two all : ℕ) → one ≤ all → two ≤ all → words ≤ cost one → others ≤ more two → words + others ≤ sum all)
+    → Spends cost losses old between → Spends more lost between new → Spends sum total old new
+spends_both cost more sum losses lost total old between new adds up one two =
+    let all = longer one.wide two.wide in
+    record {
+      learned = two.learned ++ one.learned;
+      words = one.words + two.words;
+      grows = subst (λ (sum : ℕ). Grows (two.learned ++ one.learned) (one.words + two.words) sum old new) adds
+          (grows_then one.learned two.learned one.words two.words losses lost old between new one.grows two.grows);
+      wide = all.0;
+      keys = keys_of-either one.learned two.learned one.wide two.wide all.0 one.keys two.keys all.1.which;
+      bound = up one.words two.words (length one.wide) (length two.wide) (length all.0) all.1.first all.1.second one.bound two.bound;
+    }
+
 -- What turns spent, and then further ones, is what all of them may.
 abbrev pub spends_then : (turns more losses lost total : ℕ) (old between new : PassView) → losses + lost ≡ total
     → Spends (turns_cost turns) losses old between → Spends (turns_cost more) lost between new
     → Spends (turns_cost (turns + more)) total old new
-spends_then turns more losses lost total old between new sum one two = record {
-  learned = two.learned ++ one.learned;
-  words = one.words + two.words;
-  grows = subst (λ (sum : ℕ). Grows (two.learned ++ one.learned) (one.words + two.words) sum old new) sum
-      (grows_then one.learned two.learned one.words two.words losses lost old between new one.grows two.grows);
-  bound = costs_add turns more one.words two.words (widest one.learned) (widest two.learned) (widest (two.learned ++ one.learned))
-      (widest-append one.learned two.learned) one.bound two.bound;
+spends_then turns more losses lost total old between new sum one two =
+    spends_both (turns_cost turns) (turns_cost more) (turns_cost (turns + more)) losses lost total old between new sum
+    (λ words others first second all less also low high. costs_add turns more words others first second all (less, also) low high) one two
+
+-- What was learned before or behind costs nothing more.
+abbrev pub spends_after : (cost : ℕ → ℕ) (losses : ℕ) (first : List Known) (old between new : PassView) → Grows first 0 0 old between
+    → Spends cost losses between new → Spends cost losses old new
+spends_after cost losses first old between new grown spends = record {
+  learned = spends.learned ++ first;
+  words = spends.words;
+  grows = subst (λ (z : ℕ × ℕ). Grows (spends.learned ++ first) z.0 z.1 old new)
+      (λ i. (zero-add spends.words i, zero-add losses i))
+      (grows_then first spends.learned 0 spends.words 0 losses old between new grown spends.grows);
+  wide = spends.wide;
+  keys = keys_of-behind spends.learned first spends.wide spends.keys;
+  bound = spends.bound;
+}
+
+abbrev pub spends_before : (cost : ℕ → ℕ) (losses : ℕ) (last : List Known) (old between new : PassView) → Spends cost losses old between
+    → Grows last 0 0 between new → Spends cost losses old new
+spends_before cost losses last old between new spends grown = record {
+  learned = last ++ spends.learned;
+  words = spends.words;
+  grows = subst (λ (z : ℕ × ℕ). Grows (last ++ spends.learned) z.0 z.1 old new)
+      (λ i. (add-zero spends.words i, add-zero losses i))
+      (grows_then spends.learned last spends.words 0 losses 0 old between new spends.grows grown);
+  wide = spends.wide;
+  keys = keys_of-more last spends.learned spends.wide spends.keys;
+  bound = spends.bound;
+}
+
+-- What is bounded by one cost is by a greater one.
+pub spends_more : (cost more : ℕ → ℕ) (losses : ℕ) (old new : PassView) → ((width : ℕ) → cost width ≤ more width)
+    → Spends cost losses old new → Spends more losses old new
+spends_more cost more losses old new less spends = record {
+  learned = spends.learned;
+  words = spends.words;
+  grows = spends.grows;
+  wide = spends.wide;
+  keys = spends.keys;
+  bound = omega (arith, spends.bound, less (length spends.wide));
 }
 
 -- A call that takes effect past a later front does so past an earlier one.

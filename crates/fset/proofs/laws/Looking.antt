@@ -78,11 +78,11 @@ module _ (v1 v2 : PassView) (at exponent : ℕ) (generation : GenerationBlock) (
   exponent_still = load_sealed_still at v1 exponent v2 reads at 0 (Generation generation)
       (record { known = known; sealed = omega arith; here = omega arith }) (λ e. absurd (omega (arith, e)))
 
-  still_known : KnowsGeneration v2 at generation
+  pub still_known : KnowsGeneration v2 at generation
   still_known = subst (λ (view : PassView). KnowsGeneration view at generation) (sym exponent_still) known
 
   -- The word is the exponent,
-  exponent_is : exponent ≡ generation.exponent
+  pub exponent_is : exponent ≡ generation.exponent
   exponent_is = exponent_word v1 at generation known exponent reads.reads
 
   -- which is at most 24, and the generation with its buckets lies in the arena.

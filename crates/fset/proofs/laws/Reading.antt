@@ -132,6 +132,7 @@ module _ (at : ℕ) (old : PassView) (known : KnowsRowAt old at) (word : ℕ) (n
         };
         nothing = λ zero. loads.nothing at 1 (Row row)
             (record { known = known; sealed = omega arith; here = refl }) (inr (sym is_op ∙ zero));
+        unfixed = λ zero. ap (λ (view : PassView). view.fixed) loads.view;
         learns_op = λ some_op.
             let learns = loads.op at row (record { known = known; sealed = omega arith; here = refl }) (λ zero. some_op (is_op ∙ zero)) in
             (learns.0, learns.1 ∙ ap (λ (a : ℕ). known_block a (Op learns.0) ∷ []) (sym is_op));

@@ -1,0 +1,140 @@
+-- Filling a bucket of a generation from the one before.
+use Rattle.std.specs.Prelude.{◌≡◌, ◌≢◌, ℕ, ◌+◌, ◌≤◌, ◌⊎◌, true, List, [], ◌∷◌, None}
+use Rattle.step_core.specs.Format.{IsFrozen, row_address}
+use Rattle.step_core.specs.declared.format.TheConstants.{FIRST_BUCKET}
+use Rattle.step_core.specs.declared.published.Published.TheVariants.{Row}
+use Rattle.step_core.specs.declared.published.GenerationBlock.{GenerationBlock}
+use Rattle.step_core.specs.declared.published.RowBlock.{RowBlock}
+use Rattle.step_core.specs.declared.views.FixedCell.{FixedCell}
+use Rattle.step_core.specs.declared.views.PassView.{PassView}
+use Rattle.step_core.specs.declared.views.StepCounts.{StepCounts}
+use Rattle.cells.specs.Filling.{MayFill}
+use Rattle.cells.specs.Known.{known_block, row_at, IsBucketWord, KnowsGeneration}
+use Rattle.cells.specs.Lone.{is_among}
+use Rattle.cells.specs.Tokens.{BlockValue}
+use Rattle.fset.specs.Frames.{Grows, KeepsOwn, Spends, filling_cost, row_cost}
+use Rattle.fset.specs.Rows.{IsOutOfWords}
+use Rattle.fset.specs.Seen.{IsSeen}
+use Rattle.fset.specs.declared.ensuring.Filling.{Filling}
+use Rattle.fset.specs.declared.seen.Seen.{Seen}
+
+-- the bucket is one of a known generation at the address
+abbrev pub KnowsBucketAt : PassView → ℕ → ℕ → Type 0
+KnowsBucketAt view at bucket = (generation : GenerationBlock)
+    × IsBucketWord view (at + FIRST_BUCKET + bucket) at bucket generation
+
+-- the bucket is one of a known generation that another is known to follow
+pub record IsSource (view : PassView) (at bucket : ℕ) : Type 0 where
+  pub generation : GenerationBlock
+  pub is_word : IsBucketWord view (at + FIRST_BUCKET + bucket) at bucket generation
+  pub later : ℕ
+  pub newer : GenerationBlock
+  pub known : KnowsGeneration view later newer
+  pub follows : newer.predecessor ≡ at
+
+-- freezing buckets and reading their rows changes at most the front and the horizon, what is known,
+-- and what is noted of loads
+abbrev pub OnlyCloses : PassView → PassView → Type 0
+OnlyCloses old new = new ≡ record old {
+  front = new.front;
+  horizon = new.horizon;
+  known = new.known;
+  marks = new.marks;
+  trials = new.trials;
+  fixed = new.fixed;
+  made = new.made;
+}
+
+-- the cell of a bucket, as it stays
+abbrev pub cell_of : ℕ → ℕ → ℕ → FixedCell
+cell_of at bucket word = record { at = at; place = bucket; word = word }
+
+-- the row was published for this bucket of the generation
+abbrev pub IsRowOf : GenerationBlock → ℕ → RowBlock → Type 0
+IsRowOf generation bucket row = (row.exponent ≡ generation.exponent) × (row.bucket ≡ bucket)
+
+-- The bucket was frozen, and its row read.
+pub record ClosesBucket (at bucket : ℕ) (old : PassView) (seen : Seen) (new : PassView)
+    : Type 0 where
+  pub only : OnlyCloses old new
+  pub word : ℕ
+  pub frozen : IsFrozen word
+  pub address : seen.at ≡ row_address word
+  pub fixed : new.fixed ≡ cell_of at bucket word ∷ old.fixed
+  pub row : RowBlock
+  pub grows : Grows (known_block seen.at (Row row) ∷ []) 0 0 old new
+  pub agrees : IsSeen new seen
+  pub is_row : row_at new.known seen.at ≡ row
+  pub home : (generation : GenerationBlock)
+      → IsBucketWord old (at + FIRST_BUCKET + bucket) at bucket generation
+      → IsRowOf generation bucket row
+  pub made : new.made ≡ record old.made {
+    sealed_loads = old.made.sealed_loads + 2;
+    freezes = old.made.freezes + 1;
+  }
+
+-- the bucket is one of a known generation, and so is the one before it
+pub record IsFilling (view : PassView) (filling : Filling) : Type 0 where
+  pub generation : GenerationBlock
+  pub is_word : IsBucketWord view (filling.head + FIRST_BUCKET + filling.bucket)
+      filling.head filling.bucket generation
+  pub source : GenerationBlock
+  pub before : KnowsGeneration view filling.predecessor source
+  pub predecessor : generation.predecessor ≡ filling.predecessor
+  pub exponent : filling.exponent ≡ generation.exponent
+  pub of_source : filling.before ≡ source.exponent
+
+-- of the steps that are counted only loads of sealed words, draws, writes, freezes and exchanges of
+-- nil buckets were made
+abbrev pub OnlyFillSteps : StepCounts → StepCounts → Type 0
+OnlyFillSteps before after = after ≡ record before {
+  sealed_loads = after.sealed_loads;
+  draws = after.draws;
+  writes = after.writes;
+  fills = after.fills;
+  freezes = after.freezes;
+}
+
+-- of those at most one draw, one exchange, and two freezes
+pub record OnlyFills (before after : StepCounts) : Type 0 where
+  pub only : OnlyFillSteps before after
+  pub draws : after.draws ≤ before.draws + 1
+  pub fills : after.fills ≤ before.fills + 1
+  pub freezes : after.freezes ≤ before.freezes + 2
+
+-- The row that the bucket may be filled with was built.
+pub record BuildsFilling (filling : Filling) (block : BlockValue) (old new : PassView)
+    : Type 0 where
+  pub may : MayFill new (filling.head + FIRST_BUCKET + filling.bucket) block.at
+  pub spends : Spends row_cost 0 old new
+  pub own : KeepsOwn old new
+  pub turn : new.turn ≡ old.turn
+  pub filled : new.filled ≡ old.filled
+  pub unspent : old.spent ≡ None
+  pub spent : new.spent ≡ old.spent
+  pub steps : OnlyFills old.made new.made
+  pub unfilled : new.made.fills ≡ old.made.fills
+
+-- No block for the row was to be had.
+pub record RefusesFilling (old new : PassView) : Type 0 where
+  pub spends : Spends filling_cost 0 old new
+  pub own : KeepsOwn old new
+  pub turn : new.turn ≡ old.turn
+  pub full : IsOutOfWords spends.words old new
+  pub steps : OnlyFills old.made new.made
+  pub unfilled : new.made.fills ≡ old.made.fills
+
+-- The bucket isn't nil: it is known to be filled, or it is one of a generation without one before.
+pub record EnsuresFilled (head bucket : ℕ) (old new : PassView) : Type 0 where
+  pub generation : GenerationBlock
+  pub known : KnowsGeneration old head generation
+  pub filled : (is_among new.filled head bucket ≡ true) ⊎ (generation.predecessor ≡ 0)
+  pub spends : Spends row_cost 0 old new
+  pub own : KeepsOwn old new
+  pub turn : new.turn ≡ old.turn
+  pub unspent : (old.spent ≡ None) ⊎ (spends.words ≡ 0)
+  pub spent : new.spent ≡ old.spent
+  pub steps : OnlyFills old.made new.made
+  -- without one before, only sealed words were loaded
+  pub first : generation.predecessor ≡ 0 → new.made
+      ≡ record old.made { sealed_loads = new.made.sealed_loads }

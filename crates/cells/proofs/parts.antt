@@ -1,7 +1,9 @@
 pub mod PutState
 pub mod PutView
 pub mod StillPaid
+pub mod Flying
 pub mod SameTurns
 pub mod NoWord
 pub mod Seated
 pub mod WonSwap
+pub mod WonHead

@@ -123,7 +123,7 @@ module _ {facts : RoundFacts} {words : List ℕ} {state : RoundState} {history :
   paid_stays : (view : PassView) → IsPaid (wins_of state.views) state.head state.cells view
       → IsPaid (wins_of (after s).views) state.head (after s).cells view
   paid_stays view paid = subst (λ (wins : ℕ). IsPaid wins state.head (after s).cells view) (sym wins_more)
-      (paid_more (wins_of state.views) state.head state.cells (after s).cells view paid)
+      (paid_more (wins_of state.views) state.head state.head state.cells (after s).cells view paid)
 
   -- another pass owes nothing more
   stay : (pass : ℕ) (view : PassView) → pass ≢ s.old.number → get_elem? state.views pass ≡ some view → Before pass view → After pass view

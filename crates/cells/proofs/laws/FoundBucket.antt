@@ -27,7 +27,7 @@ use Rattle.cells.proofs.laws.Paid.{both_true, same_numbers}
 use Rattle.cells.proofs.laws.Sound.{sound_view}
 
 -- a bucket that is among those that are filled is
-among_filled : (cells : ℕ → ℕ → ℕ) (filled : List FilledBucket) (at bucket : ℕ) → All (IsFilled cells) filled
+pub among_filled : (cells : ℕ → ℕ → ℕ) (filled : List FilledBucket) (at bucket : ℕ) → All (IsFilled cells) filled
     → is_among filled at bucket ≡ true → ¬ IsNil (cells at bucket)
 among_filled cells [] at bucket all test = absurd (cc)
 among_filled cells (first ∷ others) at bucket all test = elim (cases_Bool (nat_eq first.at at && nat_eq first.bucket bucket)) [

@@ -24,10 +24,11 @@ module _ (wins head : ℕ) (cells : ℕ → ℕ → ℕ) (old new : PassView) (l
       let before = paid.lost in
       record { lost = omega arith; turn = λ open_turn is. paid_turn_same open_turn (paid.turn open_turn (sym turn ∙ is)) }
 
--- Where another pass won one exchange more, what was paid is paid still, whatever the cells have now: an open turn is overtaken.
-pub paid_more : (wins head : ℕ) (cells new_cells : ℕ → ℕ → ℕ) (view : PassView) → IsPaid wins head cells view
-    → IsPaid (wins + 1) head new_cells view
-paid_more wins head cells new_cells view paid = record {
+-- Where another pass won one exchange more, what was paid is paid still, whatever the head and the cells are now: an open turn is
+-- overtaken.
+pub paid_more : (wins head new_head : ℕ) (cells new_cells : ℕ → ℕ → ℕ) (view : PassView) → IsPaid wins head cells view
+    → IsPaid (wins + 1) new_head new_cells view
+paid_more wins head new_head cells new_cells view paid = record {
   lost = omega (arith, paid.lost);
   turn = λ turn is.
       let was = paid.turn turn is in

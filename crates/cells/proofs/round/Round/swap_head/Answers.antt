@@ -25,7 +25,7 @@ compare_exchange-found-requires c =
     (λ i. (sym c.pass.view_is i, sym c.block.view_is i)) c.requires.may in
     let made = step table.table_id.slots HEAD first second none in (
       search rules,
-      search (rules, fixed_within view c.pass.invariant.sound, c.self.invariant),
+      search rules,
       pass_allows (facts_of table.key) table.table_id.slots seat.id seat.me HEAD (λ word. either (word == first) second word)
           (SwapHead first second) HeadTells made c.pass.invariant.one refl (λ words state history round. refl)
           (swap_head_moves (facts_of table.key) view made may),

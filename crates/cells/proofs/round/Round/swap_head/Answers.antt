@@ -10,7 +10,6 @@ use Rattle.cells.specs.Seats.{facts_of, pass_of}
 use Rattle.cells.specs.Tokens.{BlockValue, PassValue}
 use Rattle.cells.proofs.keeps.SwapHead.{swap_head_moves}
 use Rattle.cells.proofs.laws.Seats.{pass_allows}
-use Rattle.cells.proofs.laws.Within.{fixed_within}
 use Rattle.cells.proofs.round.Round.swap_head.Goals as goal
 
 -- whatever the round is, the pass may exchange the head that it knows for its generation

@@ -10,4 +10,5 @@ pub mod Learn
 pub mod Notes
 pub mod LoseSwap
 pub mod SwapRow
+pub mod LoseHead
 pub mod SwapHead

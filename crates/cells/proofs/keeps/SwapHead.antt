@@ -21,21 +21,21 @@ use Rattle.step_core.specs.declared.views.PassView.{PassView}
 use Rattle.step_core.specs.declared.views.RoundFacts.{RoundFacts}
 use Rattle.step_core.proofs.changes.Headed.{head_stays, head_there, ops_same}
 use Rattle.step_core.proofs.changes.Held.{content_same}
-use Rattle.cells.specs.HeadSwaps.{MaySwapHead, SwapsHead, LosesHead, view_after_lost_head}
+use Rattle.cells.specs.HeadSwaps.{MaySwapHead, SwapsHead}
 use Rattle.cells.specs.Hindsight.{StoodInHead}
 use Rattle.cells.specs.Invariant.{HoldsRound, IsFrozenCell}
 use Rattle.cells.specs.Known.{known_block}
-use Rattle.cells.specs.Lone.{first_generation, head_at, head_generation, is_among, is_untouched, KnowsTable, ledger_of}
+use Rattle.cells.specs.Lone.{first_generation, head_generation, is_among, is_untouched, KnowsTable, ledger_of}
 use Rattle.cells.specs.Moves.{HeadTells, Moved, Moves}
 use Rattle.cells.specs.Paid.{wins_of, IsPaid}
 use Rattle.cells.specs.Past.{IsGivenBlock}
+use Rattle.cells.proofs.keeps.LoseHead.{lost_moved}
 use Rattle.cells.proofs.laws.FoundBucket.{among_filled, is_untouched-cases}
 use Rattle.cells.proofs.laws.Hindsight.{KeepsStanding, hindsight_keeps}
-use Rattle.cells.proofs.laws.Lone.{generation_in-first, is_untouched-same, table_stays}
+use Rattle.cells.proofs.laws.Lone.{generation_in-first}
 use Rattle.cells.proofs.parts.Flying.{flying_same}
-use Rattle.cells.proofs.parts.NoWord.{load_moved}
 use Rattle.cells.proofs.parts.PutState.{Sees, sum_by-put, there_inside, each_sees, put_state}
-use Rattle.cells.proofs.parts.PutView.{Goes, account_stays, whole_stays}
+use Rattle.cells.proofs.parts.PutView.{account_stays, whole_stays}
 use Rattle.cells.proofs.parts.StillPaid.{paid_more}
 use Rattle.cells.proofs.parts.WonHead.{WonHead, generation, becomes, nil, some_predecessor, new_view, new_words, after, stands}
 
@@ -201,45 +201,6 @@ module _ {facts : RoundFacts} {words : List ℕ} {state : RoundState} {history :
     grows = prefix_refl history;
     tells = tells (record { view_is = refl; alone = λ alone. ledger_is });
   }
-
-module _ {facts : RoundFacts} {words : List ℕ} {state : RoundState} {history : List Entry} (round : HoldsRound facts words state history)
-    (old : PassView) (there : get_elem? state.views old.number ≡ some old) (head : ℕ) (differs : get_or words HEAD 0 ≢ head) where
-  -- the view after an exchange that found another head owes nothing
-  lost_goes : Goes facts state.head state.blocks state.cells history (wins_of state.views) old (view_after_lost_head old)
-  lost_goes =
-      let was = each_sees round old.number old there in
-      record {
-        number = refl;
-        same_round = refl;
-        known = was.known;
-        filled = was.filled;
-        fixed = was.fixed;
-        grows = prefix_refl old.front;
-        front = was.begun.front;
-        heard = was.begun.heard;
-        horizon = was.begun.horizon;
-        mine = refl;
-        flight = refl;
-        used = refl;
-        won = refl;
-        paid = record { lost = was.paid.lost; turn = λ turn is. absurd (cc) };
-        alone = λ alone. table_stays old (view_after_lost_head old) refl refl
-            (is_untouched-same old (view_after_lost_head old) refl refl refl) state.head state.blocks state.cells refl (was.alone alone);
-        hindsight = record { marks = was.hindsight.marks; heads = was.hindsight.heads; nils = was.hindsight.nils };
-        given = was.given;
-      }
-
-  -- a pass that is the only one knows the head, so it expected another
-  not_expected : old.facts.seats ≡ 1 → head_at old ≢ head
-  not_expected alone same =
-      let seats = ap (λ (facts : RoundFacts). facts.seats) (sym (round.fits.numbered old.number old there).same_round) ∙ alone in
-      differs (round.fits.holds.laid.fixed_words.head_shown ∙ sym (round.alone old.number old there seats).head_is ∙ same)
-
-  -- so the exchange moves the round
-  lost_moved : (told : PassView → Type 0) → (LosesHead head old (view_after_lost_head old) → told (view_after_lost_head old))
-      → Moved facts (set words HEAD (get_or words HEAD 0)) state history old told
-  lost_moved told tells = load_moved round old (view_after_lost_head old) there lost_goes refl refl refl HEAD told
-      (tells (record { view_is = refl; alone = not_expected }))
 
 -- whatever the round is, the pass may exchange the head that it knows to have no nil bucket for the generation in hand
 pub swap_head_moves : (facts : RoundFacts) (old : PassView) (step : TableStep ℕ) → MaySwapHead old step.first step.second

@@ -1,5 +1,5 @@
 -- The exchange of the head keeps the invariant, won or lost.
-use Rattle.std.proofs.Common.{◌≡◌, ◌≢◌, inl, ⊎_elim, ℕ, ◌+◌, Bool, true, cond, List, ◌∷◌, ◌++◌, get_or, set, Option, Some, All, refl, sym, ap, ◌∙◌, subst, arith, eq-eqb, ne_eqb}
+use Rattle.std.proofs.Common.{◌≡◌, ◌≢◌, inl, ⊎_elim, ℕ, ◌+◌, Bool, true, cond, List, ◌∷◌, ◌++◌, get_or, set, Some, All, refl, sym, ap, ◌∙◌, subst, arith, eq-eqb, ne_eqb}
 use mathlib.Core.Option.{some}
 use lib.ListN.{get_elem?}
 use native.Mathlib.Decide.{ℕ_discrete}
@@ -13,7 +13,6 @@ use Rattle.step_core.specs.Rising.{keys_after}
 use Rattle.step_core.specs.States.{RoundState}
 use Rattle.step_core.specs.declared.format.TheConstants.{HEAD}
 use Rattle.step_core.specs.declared.kinds.Step.TheVariants.{SwapHead}
-use Rattle.step_core.specs.declared.published.Published.{Published}
 use Rattle.step_core.specs.declared.published.Published.TheVariants.{Generation, Row}
 use Rattle.step_core.specs.declared.views.FixedCell.{FixedCell}
 use Rattle.step_core.specs.declared.views.Known.{Known}

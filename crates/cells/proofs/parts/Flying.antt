@@ -1,6 +1,5 @@
 -- Where the published operations and their results are those that were, an operation in flight has the entry that it had.
-use Rattle.std.proofs.Common.{◌≡◌, ℕ, List, [], Option, Some, None, refl, sym, ◌∙◌}
-use Rattle.set_model.specs.declared.entry.Entry.{Entry}
+use Rattle.std.proofs.Common.{◌≡◌, ℕ, [], Option, Some, None, refl, sym, ◌∙◌}
 use Rattle.step_core.specs.declared.published.Published.{Published}
 use Rattle.step_core.specs.declared.published.Published.TheVariants.{Generation, Row, Op}
 use Rattle.step_core.specs.declared.published.OpBlock.{OpBlock}

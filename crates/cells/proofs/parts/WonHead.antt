@@ -1,5 +1,5 @@
 -- What stands after an exchange of HEAD that found the known head: the generation in hand is published and the head.
-use Rattle.std.proofs.Common.{◌≡◌, ◌⊎◌, ⊎_elim, inr, ℕ, ◌+◌, ◌<◌, ◌≤◌, ◌^◌, true, List, [], ◌∷◌, length, replicate, get_or, set, Option, Some, None, refl, sym, ap, ◌∙◌, subst, arith, length-set}
+use Rattle.std.proofs.Common.{◌≡◌, ◌⊎◌, ⊎_elim, inr, ℕ, ◌+◌, ◌<◌, ◌≤◌, ◌^◌, true, List, ◌∷◌, length, replicate, get_or, set, None, sym, ap, ◌∙◌, subst, arith, length-set}
 use mathlib.Core.Option.{some}
 use lib.ListN.{get_elem?}
 use Rattle.std.proofs.lemmas.Nat.{mod_below, pow_pos}
@@ -18,7 +18,6 @@ use Rattle.step_core.specs.Format.{IsNil, sealed_words, open_words}
 use Rattle.step_core.specs.Limits.{max_exponent}
 use Rattle.step_core.specs.States.{RoundState, AreLaidOut, IsGeneration, hands_of}
 use Rattle.step_core.specs.declared.format.TheConstants.{HEAD}
-use Rattle.step_core.specs.declared.published.Published.{Published}
 use Rattle.step_core.specs.declared.published.Published.TheVariants.{Generation}
 use Rattle.step_core.specs.declared.published.GenerationBlock.{GenerationBlock}
 use Rattle.step_core.specs.declared.views.PassView.{PassView}

@@ -1,5 +1,5 @@
 -- What holds of any view, taken alone.
-use Rattle.std.specs.Prelude.{All, ◌≡◌, ℕ, ◌+◌, ◌<◌, ◌≤◌, length}
+use Rattle.std.specs.Prelude.{All, ◌≡◌, ℕ, ◌+◌, ◌<◌, ◌≤◌, ◌⊎◌, length}
 use Rattle.std.specs.List.Sorted.{IsStrictlyIncreasing}
 use Rattle.set_model.specs.History.{IsLegal}
 use Rattle.set_model.specs.Keys.{is_in}
@@ -64,6 +64,10 @@ pub record IsSound (view : PassView) : Type 0 where
       → HasGivenKeys view.facts.keys view.horizon row
   pub generations : (at : ℕ) (generation : GenerationBlock) → KnowsGeneration view at generation
       → generation.exponent ≤ max_exponent
+  -- and of two that follow each other the one has one bucket bit more
+  pub nexts : (at : ℕ) (generation other : GenerationBlock) → KnowsGeneration view at generation
+      → KnowsGeneration view generation.predecessor other
+      → (generation.exponent ≡ other.exponent + 1) ⊎ (other.exponent ≡ generation.exponent + 1)
   -- blocks in hand lie in the arena, share no word, and none is known
   pub hands : (at place : ℕ) → IsInHand view at place → IsInArena view.facts place 1
   pub hands_apart : (at other place : ℕ) → IsInHand view at place → IsInHand view other place

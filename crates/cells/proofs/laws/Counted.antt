@@ -17,6 +17,7 @@ sound_counted view made sound = record {
   rows = sound.rows;
   given = sound.given;
   generations = sound.generations;
+  nexts = sound.nexts;
   hands = λ at place word. sound.hands at place (record { begun = word.begun; within = word.within });
   hands_apart = λ at other place word too. sound.hands_apart at other place (record { begun = word.begun; within = word.within })
       (record { begun = too.begun; within = too.within });

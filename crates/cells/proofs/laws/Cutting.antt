@@ -111,6 +111,7 @@ fresh_sound facts number small lt = record {
   rows = λ at row knows. absurd (omega (arith, knows.1));
   given = λ at row knows. absurd (omega (arith, knows.1));
   generations = λ at generation knows. absurd (omega (arith, knows.1));
+  nexts = λ at generation other knows before. absurd (omega (arith, knows.1));
   hands = λ at place inside. absurd (omega (arith, inside.begun, inside.within));
   hands_apart = λ at other place inside also. absurd (omega (arith, inside.begun, inside.within));
   hands_unknown = λ at other place inside also. absurd (omega (arith, inside.begun, inside.within));

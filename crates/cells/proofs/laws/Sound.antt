@@ -1,5 +1,5 @@
 -- Where the invariant holds, each pass's view is sound: what it says of itself, of known blocks and of blocks in hand is so.
-use Rattle.std.proofs.Common.{All, [], ◌∷◌, ◌++◌, ◌≡◌, ℕ, ◌+◌, ◌-◌, ◌<◌, List, length, Some, refl, ap, sym, ◌∙◌, subst, arith}
+use Rattle.std.proofs.Common.{All, [], ◌∷◌, ◌++◌, ◌≡◌, ℕ, ◌+◌, ◌-◌, ◌<◌, ◌⊎◌, List, length, Some, refl, ap, sym, ◌∙◌, subst, arith}
 use Rattle.std.proofs.lemmas.List.Elements.{All-nil, All-cons, All-head, All-tail, All-contains}
 use mathlib.Core.Option.{some}
 use lib.ListN.{get_elem?}
@@ -16,11 +16,12 @@ use Rattle.step_core.proofs.seen.Shown.{some_word}
 use Rattle.step_core.specs.States.{RoundState, hands_of}
 use Rattle.step_core.specs.declared.published.Published.{Published}
 use Rattle.step_core.specs.declared.published.Published.TheVariants.{Generation, Row}
+use Rattle.step_core.specs.declared.published.GenerationBlock.{GenerationBlock}
 use Rattle.step_core.specs.declared.published.RowBlock.{RowBlock}
 use Rattle.step_core.specs.declared.views.PassView.{PassView}
 use Rattle.step_core.specs.declared.views.RoundFacts.{RoundFacts}
 use Rattle.cells.specs.Invariant.{HoldsRound}
-use Rattle.cells.specs.Known.{known_block, KnowsBlock, KnowsRow}
+use Rattle.cells.specs.Known.{known_block, KnowsBlock, KnowsGeneration, KnowsRow}
 use Rattle.cells.specs.Past.{HasGivenKeys, IsGivenBlock, flying_entry}
 use Rattle.cells.specs.SoFar.{KnowsNoOp}
 use Rattle.cells.specs.Sound.{IsInArena, IsInHand, IsInBlock, AreFacts, IsSound}
@@ -98,6 +99,21 @@ module _ {facts : RoundFacts} {words : List ℕ} {state : RoundState} {history :
       (drawn last (record { block = block; is_block = here; begun = omega arith; within = omega arith }))
       (omega arith))
 
+  -- of two known generations that follow each other the one has one bucket bit more
+  next_sizes : (at : ℕ) (generation other : GenerationBlock) → KnowsGeneration view at generation
+      → KnowsGeneration view generation.predecessor other
+      → (generation.exponent ≡ other.exponent + 1) ⊎ (other.exponent ≡ generation.exponent + 1)
+  next_sizes at generation other known before =
+      let inside = block_inside generation.predecessor (Generation other) before in
+      let follows = round.fits.holds.chain.follows at generation (is_published at (Generation generation) known)
+      (λ none. absurd (omega (arith, inside.behind_base, none))) in
+      let there : state.blocks generation.predecessor ≡ Some (Generation other) =
+      is_published generation.predecessor (Generation other) before in
+      let named : state.blocks generation.predecessor ≡ Some (Generation follows.other) = follows.there in
+      let same : follows.other ≡ other = cc in
+      subst (λ (other : GenerationBlock). (generation.exponent ≡ other.exponent + 1) ⊎ (other.exponent ≡ generation.exponent + 1)) same
+      follows.next
+
   -- and a word of a block in hand
   hand_inside : (at place : ℕ) → IsInHand view at place → IsInArena view.facts place 1
   hand_inside at place word =
@@ -150,6 +166,7 @@ module _ {facts : RoundFacts} {words : List ℕ} {state : RoundState} {history :
             (round.past.given number view is_view) known row refl);
         generations = λ at generation known. round.fits.holds.chain.small at generation
             (is_published at (Generation generation) known);
+        nexts = next_sizes;
         hands = hand_inside;
         hands_apart = λ at other place word too. (hands_are_apart sealed_words open_words hands_of laid number at number other place
             (hand_word at place word) (hand_word other place too)).1;

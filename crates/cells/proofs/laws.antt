@@ -10,7 +10,9 @@ pub mod Entries
 pub mod Known
 pub mod Sealed
 pub mod Within
+pub mod BuiltRow
 pub mod Swaps
+pub mod Fills
 pub mod AfterSwaps
 pub mod SwapReady
 pub mod OnlyBucket

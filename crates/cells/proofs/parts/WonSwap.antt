@@ -45,6 +45,7 @@ use Rattle.cells.proofs.laws.FoundBucket.{published, word_is, row_there}
 use Rattle.cells.proofs.laws.Given.{given_row, given_inserted}
 use Rattle.cells.proofs.laws.Sound.{sound_view}
 use Rattle.cells.proofs.laws.Swaps.{hand_row, entry_is, is_change, all_hand, swapped_holds}
+use Rattle.cells.proofs.parts.PublishRow.{hand_unpublished, hand_place, with_hand_row, hand_row_laid}
 use Rattle.cells.proofs.parts.PutState.{Stands, there_inside}
 
 -- an exchange that finds its word, in a round of which the invariant holds
@@ -127,16 +128,11 @@ module _ {facts : RoundFacts} {words : List ℕ} {state : RoundState} {history :
         ap (λ (row : RowBlock). row.bucket) (sym same) ∙ home.bucket ∙ mod-eq_of_lt may.is_word.within,
       )
 
-  -- the block in hand has words, as a row has
-  long : 0 < length (words_at old.hands at)
-  long = omega (arith, ap length (hand_row old place word at may))
-
   -- the row may take the place of the other
   pub replaces : Replaces state.blocks state.cells may.turn.head may.bucket may.generation at row
   replaces = record {
-    unpublished = hands_are_new sealed_words open_words hands_of round.fits.holds.laid some_word old.number at
-        (record { view = old; is_view = there; begun = omega arith; within = omega (arith, long) });
-    some_place = omega (arith, (sound.hands at at (record { begun = omega arith; within = omega (arith, long) })).behind_base);
+    unpublished = hand_unpublished round old there at row (hand_row old place word at may);
+    some_place = hand_place round old there at row (hand_row old place word at may);
     here = published round old there place may.turn.head may.bucket may.generation may.is_word;
     spot = mod-eq_of_lt may.is_word.within;
     filled = subst (λ (w : ℕ). ¬ IsNil w) (sym cell_is) may.some_row;
@@ -156,31 +152,15 @@ module _ {facts : RoundFacts} {words : List ℕ} {state : RoundState} {history :
   new_view = view_after_swap_row history s.serial word at old
 
   abbrev pub after : RoundState
-  after = with_cell (after_publish sealed_words open_words state old.number new_view at (Row row))
-      may.turn.head may.bucket (mutable_word at)
+  after = with_hand_row round old there at row (hand_row old place word at may) names may.is_word.within new_view (KeepsFronts-refl new_view.hands)
 
   abbrev pub new_words : List ℕ
   new_words = set words place (mutable_word at)
 
-  -- the row's words are those in hand
-  words_are : words_at old.hands at ≡ published_words sealed_words open_words (Row row)
-  words_are = hand_row old place word at may ∙ sym (append-nil (row_words (hand_keys old at)))
-
-  ready : IsReady sealed_words open_words words state.owners old.number at (Row row)
-  ready = record {
-    in_hand = subst (λ (list : List ℕ). IsRange words state.owners at list (hand old.number at)) words_are
-        (round.fits.holds.laid.hands old.number old there at);
-    some_word = omega arith;
-  }
-
   -- the words show the state
   laid : AreLaidOut (length words) facts.seats new_words after
-  laid =
-      let shown = publish_keeps sealed_words open_words hands_of round.fits.holds.laid old.number new_view at (Row row) ready
-      (record { old = old; is_view = there; fronts = KeepsFronts-refl new_view.hands }) in
-      subst (λ (p : ℕ). AreLaidOut (length words) facts.seats (set words p (mutable_word at)) after) (sym may.is_word.here)
-      (cell_keeps sealed_words open_words hands_of shown may.turn.head may.bucket (mutable_word at) (Generation may.generation)
-      (stays names may.turn.head (Generation may.generation) replaces.here) may.is_word.within)
+  laid = subst (λ (p : ℕ). AreLaidOut (length words) facts.seats (set words p (mutable_word at)) after) (sym may.is_word.here)
+      (hand_row_laid round old there at row (hand_row old place word at may) names may.is_word.within new_view (KeepsFronts-refl new_view.hands))
 
   -- the call is a change, and its entry tells it
   change : IsChange before.keys row.keys entry.call entry.key

@@ -10,4 +10,4 @@ pub mod Learn
 pub mod Notes
 pub mod LoseSwap
 pub mod SwapRow
--- pub mod InitBucket
+pub mod InitBucket

@@ -21,6 +21,7 @@ pub mod HeadLoads
 pub mod BucketLoads
 pub mod BucketKeys
 pub mod LoneBucket
+pub mod LoneFill
 pub mod AfterDraws
 pub mod WritesAddUp
 pub mod Paid

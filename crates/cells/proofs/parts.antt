@@ -7,4 +7,4 @@ pub mod Seated
 pub mod NamedRow
 pub mod PublishRow
 pub mod WonSwap
--- pub mod WonFill
+pub mod WonFill

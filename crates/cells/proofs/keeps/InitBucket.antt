@@ -1,10 +1,10 @@
 -- The exchange that fills a nil bucket keeps the invariant, won or lost.
-use Rattle.std.proofs.Common.{◌≡◌, ◌≢◌, ⊎_elim, ℕ, Bool, false, not, nat_eq, cond, List, [], ◌∷◌, ◌++◌, get_or, set, Some, All, refl, sym, ap, ap₂, ◌∙◌, subst, arith, eq-eqb, ne_eqb}
+use Rattle.std.proofs.Common.{◌≡◌, ◌≢◌, ⊎_elim, ℕ, Bool, false, not, nat_eq, cond, List, [], ◌∷◌, ◌++◌, get_or, set, refl, sym, ap, ap₂, ◌∙◌, subst, arith, eq-eqb, ne_eqb}
 use mathlib.Core.Option.{some}
 use lib.ListN.{get_elem?}
 use native.Mathlib.Decide.{ℕ_discrete}
 use base.Growing.{prefix_refl}
-use Rattle.std.proofs.lemmas.List.Elements.{All-nil, All-cons, All-head}
+use Rattle.std.proofs.lemmas.List.Elements.{All-nil, All-cons}
 use Rattle.atomic_table.specs.Table.{Step as TableStep}
 use Rattle.set_model.specs.declared.entry.Entry.{Entry}
 use Rattle.step_core.specs.Fits.{IsPublished}
@@ -14,7 +14,6 @@ use Rattle.step_core.specs.States.{RoundState, IsGeneration}
 use Rattle.step_core.specs.declared.kinds.Step.TheVariants.{InitBucket}
 use Rattle.step_core.specs.declared.published.Published.TheVariants.{Generation, Row}
 use Rattle.step_core.specs.declared.published.GenerationBlock.{GenerationBlock}
-use Rattle.step_core.specs.declared.published.RowBlock.{RowBlock}
 use Rattle.step_core.specs.declared.views.PassView.{PassView}
 use Rattle.step_core.specs.declared.views.RoundFacts.{RoundFacts}
 use Rattle.step_core.proofs.changes.Named.{stays, named, some_name, cell_cases}
@@ -25,7 +24,6 @@ use Rattle.cells.specs.Lone.{head_at, head_generation, first_generation, is_unto
 use Rattle.cells.specs.Moves.{Moved, Moves, FillTells}
 use Rattle.cells.specs.Paid.{wins_of, IsPaid}
 use Rattle.cells.specs.Past.{IsGivenBlock, HasGivenKeys}
-use Rattle.cells.specs.Sound.{IsSound}
 use Rattle.cells.specs.Steps.{filled_bucket}
 use Rattle.cells.proofs.laws.Fills.{fill_given}
 use Rattle.cells.proofs.laws.FoundBucket.{published, word_is}

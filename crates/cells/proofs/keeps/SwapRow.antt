@@ -1,5 +1,5 @@
 -- The exchange of a row keeps the invariant, won or lost.
-use Rattle.std.proofs.Common.{◌≡◌, ◌≢◌, inl, ⊎_elim, ℕ, ◌+◌, ◌<◌, ◌≤◌, Bool, true, cond, List, [], ◌∷◌, ◌++◌, get_or, set, Option, Some, None, All, refl, sym, ap, ◌∙◌, subst, arith, append-nil, eq-eqb, ne_eqb}
+use Rattle.std.proofs.Common.{◌≡◌, ◌≢◌, ⊎_elim, ℕ, ◌+◌, ◌<◌, ◌≤◌, Bool, true, cond, List, [], ◌∷◌, ◌++◌, get_or, set, Option, Some, All, refl, sym, ap, ◌∙◌, subst, arith, append-nil, eq-eqb, ne_eqb}
 use mathlib.Core.Option.{some}
 use lib.ListN.{get_elem?}
 use native.Mathlib.Decide.{ℕ_discrete}
@@ -7,31 +7,26 @@ use base.Growing.{prefix_refl, prefix_trans}
 use Rattle.std.proofs.lemmas.List.Elements.{All-nil, All-cons, All-append, All-weaker}
 use Rattle.atomic_table.proofs.Lists.{set_here}
 use Rattle.atomic_table.specs.Table.{Step as TableStep}
-use Rattle.arena.proofs.laws.States.{updated-cases, updated-same}
+use Rattle.arena.proofs.laws.States.{updated-same}
 use Rattle.set_model.specs.declared.entry.Entry.{Entry}
 use Rattle.step_core.specs.Fits.{IsPublished}
-use Rattle.step_core.specs.Format.{IsFrozen, mutable_word, row_address}
+use Rattle.step_core.specs.Format.{mutable_word, row_address}
 use Rattle.step_core.specs.Ledger.{changed}
 use Rattle.step_core.specs.Rising.{Change, keys_after, keys_after_call}
 use Rattle.step_core.specs.States.{RoundState, IsGeneration}
 use Rattle.step_core.specs.declared.kinds.Step.TheVariants.{SwapRow}
-use Rattle.step_core.specs.declared.published.Published.{Published}
-use Rattle.step_core.specs.declared.published.Published.TheVariants.{Generation, Row, Op}
-use Rattle.step_core.specs.declared.views.FilledBucket.{FilledBucket}
-use Rattle.step_core.specs.declared.views.FixedCell.{FixedCell}
-use Rattle.step_core.specs.declared.views.Known.{Known}
+use Rattle.step_core.specs.declared.published.Published.TheVariants.{Generation, Row}
 use Rattle.step_core.specs.declared.views.PassView.{PassView}
 use Rattle.step_core.specs.declared.views.RoundFacts.{RoundFacts}
-use Rattle.step_core.proofs.changes.Named.{stays, filled_stays, frozen_stays, result_stays, cell_cases}
-use Rattle.step_core.proofs.changes.Held.{content_same, ops_keep}
+use Rattle.step_core.proofs.changes.Named.{stays, cell_cases}
 use Rattle.step_core.proofs.lists.Histories.{keys_after-push}
 use Rattle.cells.specs.Exchanges.{swap_change, entry_by, MaySwapRow, SwapsRow}
-use Rattle.cells.specs.Invariant.{HoldsRound, IsFilled, IsFrozenCell}
+use Rattle.cells.specs.Invariant.{HoldsRound}
 use Rattle.cells.specs.Known.{known_block}
 use Rattle.cells.specs.Lone.{head_at, head_generation, is_untouched, first_generation, KnowsTable, ledger_of}
 use Rattle.cells.specs.Moves.{Moved, Moves, SwapTells, serial_of}
 use Rattle.cells.specs.Paid.{wins_of, IsPaid}
-use Rattle.cells.specs.Past.{decided_entry, entries_by, flying_entry}
+use Rattle.cells.specs.Past.{entries_by, flying_entry}
 use Rattle.cells.proofs.keeps.LoseSwap.{lost_moved}
 use Rattle.cells.proofs.laws.Entries.{entries_by-own, entries_by-other}
 use Rattle.cells.proofs.laws.Given.{given_published}

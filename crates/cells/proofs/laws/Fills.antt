@@ -1,5 +1,5 @@
 -- What it means that a nil bucket may be filled: its sources are closed, and the row in hand has of the bucket's class what they have.
-use Rattle.std.proofs.Common.{◌≡◌, ◌≢◌, ℕ, ◌&&◌, inl, inr, Bool, true, cond, nat_eq, List, [], ◌∷◌, ◌++◌, get_or, Option, Some, All, refl, sym, ap, ap₂, ◌∙◌, subst, arith}
+use Rattle.std.proofs.Common.{◌≡◌, ◌≢◌, ℕ, ◌&&◌, inl, inr, Bool, cond, nat_eq, List, [], ◌∷◌, ◌++◌, get_or, Option, Some, All, refl, sym, ap, ap₂, ◌∙◌, subst, arith}
 use mathlib.Core.Option.{some}
 use lib.ListN.{get_elem?}
 use Rattle.std.proofs.lemmas.Bool.{cases_Bool}
@@ -22,12 +22,12 @@ use Rattle.step_core.specs.declared.views.RoundFacts.{RoundFacts}
 use Rattle.step_core.proofs.changes.Filled.{HasContent}
 use Rattle.step_core.proofs.changes.Named.{HasSources}
 use Rattle.step_core.proofs.seen.Held.{row_content-plain}
-use Rattle.cells.specs.Exchanges.{content_keys, fixed_at}
+use Rattle.cells.specs.Exchanges.{fixed_at}
 use Rattle.cells.specs.Filling.{source_row, filling_row, MayFill}
 use Rattle.cells.specs.Invariant.{HoldsRound, IsFrozenCell}
-use Rattle.cells.specs.Known.{known_block, generation_at, bucket_at}
+use Rattle.cells.specs.Known.{known_block}
 use Rattle.cells.specs.Lone.{generation_in, first_generation}
-use Rattle.cells.specs.Past.{inserted_keys, IsGiven, IsGivenBlock, HasGivenKeys}
+use Rattle.cells.specs.Past.{inserted_keys, IsGivenBlock, HasGivenKeys}
 use Rattle.cells.specs.Sound.{IsSound}
 use Rattle.cells.proofs.laws.AfterSwaps.{inside_of}
 use Rattle.cells.proofs.laws.BuiltRow.{built_keys}

@@ -2,7 +2,6 @@
 use Rattle.std.proofs.Common.{◌≡◌, ◌≢◌, ℕ, ◌+◌, ◌^◌, ◌<◌, ◌||◌, ◌&&◌, not, Bool, true, false, nat_eq, Option, inl, inr, refl, sym, ap, ◌∙◌, subst, eq-eqb}
 use native.Mathlib.Decide.{ℕ_discrete}
 use Rattle.std.proofs.lemmas.Bool.{cases_Bool}
-use Rattle.step_core.specs.Format.{IsNil}
 use Rattle.step_core.specs.Ledger.{touched}
 use Rattle.step_core.specs.Rising.{keys_after}
 use Rattle.step_core.specs.States.{IsGeneration}

@@ -1,5 +1,5 @@
 -- What it means that an exchange of a row may be made: the row in hand is the known row after one call, and has its home.
-use Rattle.std.proofs.Common.{◌≡◌, ◌*◌, ◌^◌, ℕ, ◌<◌, ◌==◌, if◌then◌else◌, true, List, length, drop, All, sym, ap, ◌∙◌, subst, arith}
+use Rattle.std.proofs.Common.{◌≡◌, ◌*◌, ◌^◌, ℕ, ◌<◌, ◌==◌, if◌then◌else◌, true, List, All, sym, ap, ◌∙◌, subst}
 use Rattle.std.specs.List.Sorted.{IsStrictlyIncreasing}
 use Rattle.set_model.specs.declared.entry.Entry.{Entry}
 use Rattle.arena.specs.Hands.{words_at}
@@ -8,7 +8,6 @@ use Rattle.step_core.specs.Fits.{HoldsClass}
 use Rattle.step_core.specs.Format.{row_words}
 use Rattle.step_core.specs.Rising.{IsChange, change_of}
 use Rattle.set_model.specs.declared.call.Call.TheVariants.{Insert}
-use Rattle.step_core.specs.declared.format.TheConstants.{FIRST_KEY}
 use Rattle.step_core.specs.declared.published.RowBlock.{RowBlock}
 use Rattle.step_core.specs.declared.views.PassView.{PassView}
 use Rattle.step_core.proofs.lists.Change.{change_of-only}

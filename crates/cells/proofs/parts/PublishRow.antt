@@ -1,5 +1,5 @@
 -- A row that a pass wrote into a block in hand is published, and a bucket of a generation names it: the words show the state then.
-use Rattle.std.proofs.Common.{◌≡◌, ℕ, ◌+◌, ◌<◌, ◌^◌, List, length, set, Some, None, Option, sym, ap, ◌∙◌, subst, arith, append-nil}
+use Rattle.std.proofs.Common.{◌≡◌, ℕ, ◌+◌, ◌<◌, ◌^◌, List, length, set, None, sym, ap, ◌∙◌, subst, arith, append-nil}
 use mathlib.Core.Option.{some}
 use lib.ListN.{get_elem?}
 use Rattle.set_model.specs.declared.entry.Entry.{Entry}

@@ -1,5 +1,5 @@
 -- What stands after an exchange that found its word: the row is published in the place of the other, and the history has its entry.
-use Rattle.std.proofs.Common.{◌≡◌, ⊎_elim, ℕ, ◌<◌, ◌≤◌, List, [], ◌∷◌, ◌++◌, length, get_or, set, map, Some, All, refl, sym, ap, ◌∙◌, subst, arith, append-nil, length-set}
+use Rattle.std.proofs.Common.{◌≡◌, ⊎_elim, ℕ, ◌<◌, ◌≤◌, List, [], ◌∷◌, ◌++◌, length, get_or, set, map, Some, All, refl, sym, ap, ◌∙◌, subst, arith, length-set}
 use mathlib.Core.Option.{some}
 use lib.ListN.{get_elem?}
 use native.Mathlib.Decide.{ℕ_discrete}
@@ -11,31 +11,22 @@ use Rattle.set_model.specs.History.{members_after}
 use Rattle.set_model.specs.Keys.{is_in}
 use Rattle.set_model.specs.declared.entry.Entry.{Entry}
 use Rattle.set_model.proofs.LawHistory.{IsLegal-push}
-use Rattle.arena.specs.Hands.{words_at}
-use Rattle.arena.specs.LaidOut.{IsRange, published_words}
-use Rattle.arena.specs.Laws.{IsReady}
-use Rattle.arena.specs.Moves.{with_cell, after_publish}
-use Rattle.arena.specs.Owners.{hand}
-use Rattle.arena.proofs.keeps.Cell.{cell_keeps}
-use Rattle.arena.proofs.keeps.Publish.{publish_keeps}
-use Rattle.arena.proofs.laws.Apart.{hands_are_new}
 use Rattle.arena.proofs.laws.Hands.{KeepsFronts-refl}
 use Rattle.step_core.specs.Content.{InClass}
 use Rattle.step_core.specs.Fits.{IsPublished, HoldsClass}
-use Rattle.step_core.specs.Format.{IsNil, IsMutable, row_address, row_words, mutable_word, sealed_words, open_words}
+use Rattle.step_core.specs.Format.{IsNil, IsMutable, row_address, mutable_word}
 use Rattle.step_core.specs.Members.{row_content}
 use Rattle.step_core.specs.Rising.{IsChange}
-use Rattle.step_core.specs.States.{RoundState, AreLaidOut, IsRow, hands_of}
-use Rattle.step_core.specs.declared.published.Published.TheVariants.{Generation, Row}
+use Rattle.step_core.specs.States.{RoundState, AreLaidOut, IsRow}
+use Rattle.step_core.specs.declared.published.Published.TheVariants.{Row}
 use Rattle.step_core.specs.declared.published.RowBlock.{RowBlock}
 use Rattle.step_core.specs.declared.views.PassView.{PassView}
 use Rattle.step_core.specs.declared.views.RoundFacts.{RoundFacts}
 use Rattle.step_core.proofs.changes.Members.{changes_members, members_changed}
-use Rattle.step_core.proofs.changes.Named.{Names, homes_stay, announces_stay, stays, row_was, op_was}
+use Rattle.step_core.proofs.changes.Named.{Names, homes_stay, announces_stay, row_was, op_was}
 use Rattle.step_core.proofs.changes.Replaced.{Replaces, replacing, chain_replaced}
 use Rattle.step_core.proofs.seen.Held.{row_content-plain}
-use Rattle.step_core.proofs.seen.Shown.{some_word}
-use Rattle.cells.specs.Exchanges.{named_row, hand_keys, swap_entry, swapped_row, MaySwapRow, view_after_swap_row}
+use Rattle.cells.specs.Exchanges.{named_row, swap_entry, swapped_row, MaySwapRow, view_after_swap_row}
 use Rattle.cells.specs.Invariant.{HoldsRound}
 use Rattle.cells.specs.Known.{known_block}
 use Rattle.cells.specs.Past.{IsGiven, HasGivenKeys, IsOfPasses, IsInOrder, entries_by}

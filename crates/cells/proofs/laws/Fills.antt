@@ -114,7 +114,8 @@ module _ {facts : RoundFacts} {words : List ℕ} {state : RoundState} {history :
     -- which names the row
     row_is : IsRow state.blocks (row_address (state.cells before source)) known_row
     row_is = subst (λ (w : ℕ). IsRow state.blocks (row_address w) known_row) (sym cell_is)
-        (is_published round old.number old there (row_address (fixed_at old.fixed before source)) (Row known_row) (may.closed spot in_bucket).known)
+        (is_published round old.number old there (row_address (fixed_at old.fixed before source)) (Row known_row)
+        (may.closed spot in_bucket).known)
 
     -- that has no operation
     plain : known_row.op ≡ 0

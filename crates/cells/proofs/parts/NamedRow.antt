@@ -1,24 +1,25 @@
 -- A row is published and a bucket that isn't frozen names it: what views know is so still, and what stood has stood.
-use Rattle.std.proofs.Common.{◌≡◌, ◌≢◌, inl, ⊎_elim, ℕ, List, ◌∷◌, Option, Some, None, All, refl, sym, ap, ◌∙◌, subst, arith}
+use Rattle.std.proofs.Common.{◌≡◌, inl, ⊎_elim, ℕ, List, ◌∷◌, Option, Some, All, sym, ◌∙◌, subst, arith}
 use mathlib.Core.List.{IsPrefix}
 use Rattle.std.proofs.lemmas.List.Elements.{All-cons, All-weaker}
-use Rattle.arena.proofs.laws.States.{updated-cases, updated-same}
+use Rattle.arena.proofs.laws.States.{updated-same}
 use Rattle.set_model.specs.declared.entry.Entry.{Entry}
 use Rattle.step_core.specs.Fits.{IsPublished}
 use Rattle.step_core.specs.Format.{IsFrozen, mutable_word}
 use Rattle.step_core.specs.declared.published.Published.{Published}
-use Rattle.step_core.specs.declared.published.Published.TheVariants.{Generation, Row, Op}
+use Rattle.step_core.specs.declared.published.Published.TheVariants.{Generation, Row}
 use Rattle.step_core.specs.declared.published.GenerationBlock.{GenerationBlock}
 use Rattle.step_core.specs.declared.published.RowBlock.{RowBlock}
 use Rattle.step_core.specs.declared.views.FilledBucket.{FilledBucket}
 use Rattle.step_core.specs.declared.views.FixedCell.{FixedCell}
 use Rattle.step_core.specs.declared.views.Known.{Known}
 use Rattle.step_core.proofs.changes.Held.{content_same, ops_keep}
-use Rattle.step_core.proofs.changes.Named.{Names, with_row, with_name, stays, filled_stays, frozen_stays, result_stays, cell_cases}
+use Rattle.step_core.proofs.changes.Named.{Names, with_row, with_name, stays, filled_stays, frozen_stays, cell_cases}
 use Rattle.cells.specs.Invariant.{IsFilled, IsFrozenCell}
 use Rattle.cells.specs.Known.{known_block}
-use Rattle.cells.specs.Past.{decided_entry, flying_entry}
+use Rattle.cells.specs.Past.{flying_entry}
 use Rattle.cells.proofs.laws.Hindsight.{KeepsStanding}
+use Rattle.cells.proofs.parts.Flying.{flying_same}
 
 module _ {blocks : ℕ → Option Published} {cells : ℕ → ℕ → ℕ} {g bucket : ℕ} {generation : GenerationBlock} {at : ℕ} {row : RowBlock}
     (n : Names blocks cells g bucket generation at row) where
@@ -47,25 +48,9 @@ module _ {blocks : ℕ → Option Published} {cells : ℕ → ℕ → ℕ} {g bu
         word = frozen_stays n cell.at cell.place (subst IsFrozen (sym was.word) was.frozen) ∙ was.word;
       }) fixed
 
-  -- an operation that was decided is so, with the same entry
-  decided : (from : ℕ) (block : Option Published) → blocks from ≡ block
-      → decided_entry (with_row n from) (with_name n from 0) ≡ decided_entry block (cells from 0)
-  decided from None is = ⊎_elim
-      (λ (same : (from ≡ at) × (with_row n from ≡ Some (Row row))).
-      ap (λ (block : Option Published). decided_entry block (with_name n from 0)) same.1)
-      (λ (kept : (from ≢ at) × (with_row n from ≡ blocks from)).
-      ap (λ (block : Option Published). decided_entry block (with_name n from 0)) (kept.1 ∙ is))
-      (updated-cases blocks at (Some (Row row)) from)
-  decided from (Some (Generation other)) is =
-      ap (λ (block : Option Published). decided_entry block (with_name n from 0)) (stays n from (Generation other) is)
-  decided from (Some (Row other)) is =
-      ap (λ (block : Option Published). decided_entry block (with_name n from 0)) (stays n from (Row other) is)
-  decided from (Some (Op op)) is = λ i. decided_entry (stays n from (Op op) is i) (result_stays n from op is i)
-
-  -- so an operation in flight has the entry that it had
+  -- an operation in flight has the entry that it had
   pub flying_stays : (flight : Option ℕ) → flying_entry (with_row n) (with_name n) flight ≡ flying_entry blocks cells flight
-  flying_stays None = refl
-  flying_stays (Some from) = decided from (blocks from) refl
+  flying_stays = flying_same (ops_keep n)
 
   -- What stood has stood.
   pub named_stands : (keys : List ℕ) (history new_history : List Entry) → IsPrefix history new_history

@@ -53,7 +53,7 @@ module _ {facts : RoundFacts} {words : List ℕ} {state : RoundState} {history :
   standing : KeepsStanding facts.keys state.blocks state.cells history (after s).blocks (after s).cells history
   standing = named_stands (names s) facts.keys history history (prefix_refl history)
 
-  -- what was paid is so, since a load of the bucket has found it nil
+  -- what was paid is so: the bucket was nil, so it had no row that a load found there
   paid_stays : (view : PassView) → IsPaid (wins_of state.views) state.head state.cells view
       → IsPaid (wins_of (after s).views) state.head (after s).cells view
   paid_stays view paid = subst (λ (wins : ℕ). IsPaid wins state.head (after s).cells view) (sym wins_stay)

@@ -8,6 +8,8 @@ pub mod Write
 pub mod Seats
 pub mod Learn
 pub mod Notes
+pub mod LoseFill
+pub mod InitBucket
 pub mod LoseSwap
 pub mod SwapRow
 pub mod LoseHead

@@ -5,5 +5,8 @@ pub mod Flying
 pub mod SameTurns
 pub mod NoWord
 pub mod Seated
+pub mod NamedRow
+pub mod PublishRow
+pub mod WonFill
 pub mod WonSwap
 pub mod WonHead

@@ -74,7 +74,7 @@ or-true true other is = refl
 or-true false other is = is
 
 -- each key of a list is in it
-each_in : (keys : List ℕ) → All (λ (key : ℕ). is_in keys key ≡ true) keys
+pub each_in : (keys : List ℕ) → All (λ (key : ℕ). is_in keys key ≡ true) keys
 each_in [] = All-nil (λ (key : ℕ). is_in [] key ≡ true)
 each_in (first ∷ keys) =
     let same : nat_eq first first ≡ true = grind (arith, nat_tests) in

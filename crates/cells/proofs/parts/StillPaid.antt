@@ -1,6 +1,7 @@
 -- Lost turns are paid still, where a pass has lost and won as much and has the same turn open.
-use Rattle.std.proofs.Common.{◌≡◌, ℕ, ◌+◌, ◌<◌, sym, ◌∙◌, arith}
+use Rattle.std.proofs.Common.{◌≡◌, ℕ, ◌+◌, ◌<◌, sym, ◌∙◌, subst, arith}
 use Rattle.std.proofs.lemmas.List.Elements.{All-weaker}
+use Rattle.step_core.specs.Format.{IsNil}
 use Rattle.step_core.specs.declared.views.OpenTurn.{OpenTurn}
 use Rattle.step_core.specs.declared.views.PassView.{PassView}
 use Rattle.cells.specs.Paid.{IsPaid, IsPaidTurn, PaysLoad}
@@ -38,5 +39,23 @@ paid_more wins head new_head cells new_cells view paid = record {
         moved = λ apart. omega (arith, was.seen);
         loads = All-weaker (PaysLoad wins cells view turn) (PaysLoad (wins + 1) new_cells view turn)
             (λ load pays same some_row even apart. omega (arith, was.seen)) turn.loads was.loads;
+      };
+}
+
+-- Where cells that aren't nil keep their words, what was paid is paid still.
+pub paid_unless_nil : (wins head : ℕ) (cells new_cells : ℕ → ℕ → ℕ) (view : PassView)
+    → ((at bucket : ℕ) → ¬ IsNil (cells at bucket) → new_cells at bucket ≡ cells at bucket) → IsPaid wins head cells view
+    → IsPaid wins head new_cells view
+paid_unless_nil wins head cells new_cells view stays paid = record {
+  lost = paid.lost;
+  turn = λ turn is.
+      let was = paid.turn turn is in
+      record {
+        before = was.before;
+        seen = was.seen;
+        moved = was.moved;
+        loads = All-weaker (PaysLoad wins cells view turn) (PaysLoad wins new_cells view turn)
+            (λ load pays same some_row even apart. pays same some_row even (λ there.
+            apart (stays load.at load.bucket (subst (λ (word : ℕ). ¬ IsNil word) (sym there) some_row) ∙ there))) turn.loads was.loads;
       };
 }

@@ -14,3 +14,4 @@ pub mod LoseSwap
 pub mod SwapRow
 pub mod LoseHead
 pub mod SwapHead
+pub mod Freeze

@@ -10,3 +10,4 @@ pub mod PublishRow
 pub mod WonFill
 pub mod WonSwap
 pub mod WonHead
+pub mod MadeFreeze

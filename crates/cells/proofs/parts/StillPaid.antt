@@ -1,5 +1,6 @@
 -- Lost turns are paid still, where a pass has lost and won as much and has the same turn open.
-use Rattle.std.proofs.Common.{◌≡◌, ℕ, ◌+◌, ◌<◌, sym, ◌∙◌, subst, arith}
+use Rattle.std.proofs.Common.{◌≡◌, ℕ, ◌+◌, ◌<◌, sym, ap, ◌∙◌, subst, arith}
+use native.Mathlib.Decide.{ℕ_discrete}
 use Rattle.std.proofs.lemmas.List.Elements.{All-weaker}
 use Rattle.step_core.specs.Format.{IsNil}
 use Rattle.step_core.specs.declared.views.OpenTurn.{OpenTurn}
@@ -57,5 +58,26 @@ paid_unless_nil wins head cells new_cells view stays paid = record {
         loads = All-weaker (PaysLoad wins cells view turn) (PaysLoad wins new_cells view turn)
             (λ load pays same some_row even apart. pays same some_row even (λ there.
             apart (stays load.at load.bucket (subst (λ (word : ℕ). ¬ IsNil word) (sym there) some_row) ∙ there))) turn.loads was.loads;
+      };
+}
+
+-- Where the head's cells keep their words, what was paid is paid still: a turn that has another head was overtaken.
+pub paid_unless_head : (wins head : ℕ) (cells new_cells : ℕ → ℕ → ℕ) (view : PassView)
+    → ((bucket : ℕ) → new_cells head bucket ≡ cells head bucket) → IsPaid wins head cells view → IsPaid wins head new_cells view
+paid_unless_head wins head cells new_cells view stays paid = record {
+  lost = paid.lost;
+  turn = λ turn is.
+      let was = paid.turn turn is in
+      record {
+        before = was.before;
+        seen = was.seen;
+        moved = was.moved;
+        loads = All-weaker (PaysLoad wins cells view turn) (PaysLoad wins new_cells view turn)
+            (λ load pays same some_row even apart. elim (ℕ_discrete turn.head head) [
+              | yes is_head ↦ pays same some_row even (λ there. apart
+                  (ap (λ (at : ℕ). new_cells at load.bucket) (same ∙ is_head) ∙ stays load.bucket
+                  ∙ ap (λ (at : ℕ). cells at load.bucket) (sym (same ∙ is_head)) ∙ there))
+              | no other ↦ was.moved other
+            ]) turn.loads was.loads;
       };
 }

@@ -8,5 +8,10 @@ pub mod Write
 pub mod Seats
 pub mod Learn
 pub mod Notes
+pub mod LoseFill
+pub mod InitBucket
 pub mod LoseSwap
 pub mod SwapRow
+pub mod LoseHead
+pub mod SwapHead
+pub mod Freeze

@@ -10,7 +10,9 @@ pub mod Entries
 pub mod Known
 pub mod Sealed
 pub mod Within
+pub mod BuiltRow
 pub mod Swaps
+pub mod Fills
 pub mod AfterSwaps
 pub mod SwapReady
 pub mod OnlyBucket
@@ -19,6 +21,7 @@ pub mod HeadLoads
 pub mod BucketLoads
 pub mod BucketKeys
 pub mod LoneBucket
+pub mod LoneFill
 pub mod AfterDraws
 pub mod WritesAddUp
 pub mod Paid

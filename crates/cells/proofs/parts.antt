@@ -1,7 +1,13 @@
 pub mod PutState
 pub mod PutView
 pub mod StillPaid
+pub mod Flying
 pub mod SameTurns
 pub mod NoWord
 pub mod Seated
+pub mod NamedRow
+pub mod PublishRow
+pub mod WonFill
 pub mod WonSwap
+pub mod WonHead
+pub mod MadeFreeze

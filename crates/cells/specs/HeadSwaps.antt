@@ -1,5 +1,5 @@
 -- The exchange of the head: when it may be made, and what it tells.
-use Rattle.std.specs.Prelude.{◌≡◌, ◌≢◌, ℕ, ◌+◌, ◌^◌, ◌<◌, ◌≤◌, ◌⊎◌, true, List, ◌∷◌, replicate, slice_index, None}
+use Rattle.std.specs.Prelude.{◌≡◌, ◌≢◌, ℕ, ◌+◌, ◌^◌, ◌<◌, ◌≤◌, ◌⊎◌, true, ◌∷◌, replicate, slice_index, None}
 use Rattle.arena.specs.Hands.{words_at, without}
 use Rattle.step_core.specs.Ledger.{resized}
 use Rattle.step_core.specs.Limits.{max_exponent}

@@ -33,7 +33,7 @@ use Rattle.cells.specs.Sound.{IsSound}
 use Rattle.cells.specs.Steps.{LoadsBucket, LoadsKnownBucket, AgreesWithHistory, NamesOwnRow, is_nil, is_frozen, filled_bucket, nil_bucket, view_after_load_bucket}
 use Rattle.cells.specs.Past.{KnowsGiven}
 use Rattle.cells.proofs.laws.BucketLoads.{is_nil-nil, is_nil-other}
-use Rattle.cells.proofs.laws.FoundBucket.{published, word_is, row_there, finds_filled, finds_followed, names_row, row_agrees, is_untouched-cases}
+use Rattle.cells.proofs.laws.FoundBucket.{published, word_is, row_there, finds_filled, finds_followed, row_agrees, is_untouched-cases}
 use Rattle.cells.proofs.laws.Given.{given_published}
 use Rattle.cells.proofs.laws.Known.{generation_at-known}
 use Rattle.cells.proofs.laws.Lone.{same_ledger, table_stays}
@@ -231,7 +231,7 @@ module _ {facts : RoundFacts} {words : List ℕ} {state : RoundState} {history :
     })
 
   -- the row is at home whichever way the place is seen
-  row_home : (row : RowBlock) → row.exponent ≡ generation.exponent → row.bucket ≡ bucket → NamesOwnRow old place found row
+  pub row_home : (row : RowBlock) → row.exponent ≡ generation.exponent → row.bucket ≡ bucket → NamesOwnRow old place found row
   row_home row exponent number other other_bucket other_generation too some_row =
       let same = one_bucket old place at bucket other other_bucket generation other_generation sound is too in
       (exponent ∙ ap (λ (g : GenerationBlock). g.exponent) same.0, number ∙ same.1)

@@ -15,7 +15,7 @@ use Rattle.step_core.specs.declared.views.Known.{Known}
 use Rattle.step_core.specs.declared.views.PassView.{PassView}
 use Rattle.step_core.specs.declared.views.RoundFacts.{RoundFacts}
 use Rattle.cells.specs.Invariant.{HoldsRound}
-use Rattle.cells.specs.Known.{known_block, KnowsBlock, KnowsSealed, link_of, IsSealedWord}
+use Rattle.cells.specs.Known.{known_block, KnowsSealed, link_of, IsSealedWord}
 use Rattle.cells.specs.Sound.{IsSound}
 use Rattle.cells.specs.Lone.{head_at, first_generation, head_generation}
 use Rattle.cells.specs.Moves.{Moved, Moves, load_sealed_tells}

@@ -1,5 +1,5 @@
 -- The exchange of a row keeps the invariant, won or lost.
-use Rattle.std.proofs.Common.{◌≡◌, ◌≢◌, inl, ⊎_elim, ℕ, ◌+◌, ◌<◌, ◌≤◌, Bool, true, cond, List, [], ◌∷◌, ◌++◌, get_or, set, Option, Some, None, All, refl, sym, ap, ◌∙◌, subst, arith, append-nil, eq-eqb, ne_eqb}
+use Rattle.std.proofs.Common.{◌≡◌, ◌≢◌, ⊎_elim, ℕ, ◌+◌, ◌<◌, ◌≤◌, Bool, true, cond, List, [], ◌∷◌, ◌++◌, get_or, set, Option, Some, All, refl, sym, ap, ◌∙◌, subst, arith, append-nil, eq-eqb, ne_eqb}
 use mathlib.Core.Option.{some}
 use lib.ListN.{get_elem?}
 use native.Mathlib.Decide.{ℕ_discrete}
@@ -7,37 +7,33 @@ use base.Growing.{prefix_refl, prefix_trans}
 use Rattle.std.proofs.lemmas.List.Elements.{All-nil, All-cons, All-append, All-weaker}
 use Rattle.atomic_table.proofs.Lists.{set_here}
 use Rattle.atomic_table.specs.Table.{Step as TableStep}
-use Rattle.arena.proofs.laws.States.{updated-cases, updated-same}
+use Rattle.arena.proofs.laws.States.{updated-same}
 use Rattle.set_model.specs.declared.entry.Entry.{Entry}
 use Rattle.step_core.specs.Fits.{IsPublished}
-use Rattle.step_core.specs.Format.{IsFrozen, mutable_word, row_address}
+use Rattle.step_core.specs.Format.{mutable_word, row_address}
 use Rattle.step_core.specs.Ledger.{changed}
 use Rattle.step_core.specs.Rising.{Change, keys_after, keys_after_call}
 use Rattle.step_core.specs.States.{RoundState, IsGeneration}
 use Rattle.step_core.specs.declared.kinds.Step.TheVariants.{SwapRow}
-use Rattle.step_core.specs.declared.published.Published.{Published}
-use Rattle.step_core.specs.declared.published.Published.TheVariants.{Generation, Row, Op}
-use Rattle.step_core.specs.declared.views.FilledBucket.{FilledBucket}
-use Rattle.step_core.specs.declared.views.FixedCell.{FixedCell}
-use Rattle.step_core.specs.declared.views.Known.{Known}
+use Rattle.step_core.specs.declared.published.Published.TheVariants.{Generation, Row}
 use Rattle.step_core.specs.declared.views.PassView.{PassView}
 use Rattle.step_core.specs.declared.views.RoundFacts.{RoundFacts}
-use Rattle.step_core.proofs.changes.Named.{stays, filled_stays, frozen_stays, result_stays, cell_cases}
-use Rattle.step_core.proofs.changes.Held.{content_same, ops_keep}
+use Rattle.step_core.proofs.changes.Named.{stays, cell_cases}
 use Rattle.step_core.proofs.lists.Histories.{keys_after-push}
 use Rattle.cells.specs.Exchanges.{swap_change, entry_by, MaySwapRow, SwapsRow}
-use Rattle.cells.specs.Invariant.{HoldsRound, IsFilled, IsFrozenCell}
+use Rattle.cells.specs.Invariant.{HoldsRound}
 use Rattle.cells.specs.Known.{known_block}
 use Rattle.cells.specs.Lone.{head_at, head_generation, is_untouched, first_generation, KnowsTable, ledger_of}
 use Rattle.cells.specs.Moves.{Moved, Moves, SwapTells, serial_of}
 use Rattle.cells.specs.Paid.{wins_of, IsPaid}
-use Rattle.cells.specs.Past.{decided_entry, entries_by, flying_entry}
+use Rattle.cells.specs.Past.{entries_by, flying_entry}
 use Rattle.cells.proofs.keeps.LoseSwap.{lost_moved}
 use Rattle.cells.proofs.laws.Entries.{entries_by-own, entries_by-other}
 use Rattle.cells.proofs.laws.Given.{given_published}
 use Rattle.cells.proofs.laws.Hindsight.{KeepsStanding, hindsight_keeps}
 use Rattle.cells.proofs.laws.Lone.{generation_in-stays, is_untouched-same, table_stays}
 use Rattle.cells.proofs.laws.LoneRound.{lone_front}
+use Rattle.cells.proofs.parts.NamedRow.{known_stays, row_known, buckets_stay, fixed_stay, flying_stays, named_stands}
 use Rattle.cells.proofs.parts.PutState.{Sees, sum_by-put, there_inside, each_sees, put_state}
 use Rattle.cells.proofs.parts.PutView.{account_stays}
 use Rattle.cells.proofs.parts.StillPaid.{paid_more}
@@ -48,69 +44,17 @@ module _ {facts : RoundFacts} {words : List ℕ} {state : RoundState} {history :
   wins_more : wins_of (after s).views ≡ wins_of state.views + 1
   wins_more = omega (arith, sum_by-put (λ view. view.won) state.views s.old.number s.old (new_view s) s.there)
 
-  -- what was published is so still,
-  known_stays : (known : List Known) → All (IsPublished state.blocks) known → All (IsPublished (after s).blocks) known
-  known_stays known = All-weaker (IsPublished state.blocks) (IsPublished (after s).blocks)
-      (λ block here. stays (names s) block.at block.block here) known
+  -- the row is known with what was
+  row_here : All (IsPublished (after s).blocks) (known_block s.at (Row (row s)) ∷ s.old.known)
+  row_here = row_known (names s) s.old.known (s.round.fits.known s.old.number s.old s.there)
 
-  -- and so is the row
-  row_known : All (IsPublished (after s).blocks) (known_block s.at (Row (row s)) ∷ s.old.known)
-  row_known = All-cons (IsPublished (after s).blocks) (known_block s.at (Row (row s))) s.old.known
-      (updated-same state.blocks s.at (Some (Row (row s)))) (known_stays s.old.known (s.round.fits.known s.old.number s.old s.there))
-
-  -- a bucket that was filled is so
-  buckets_stay : (filled : List FilledBucket) → All (IsFilled state.cells) filled → All (IsFilled (after s).cells) filled
-  buckets_stay filled = All-weaker (IsFilled state.cells) (IsFilled (after s).cells)
-      (λ bucket some_row. filled_stays (names s) bucket.at bucket.bucket some_row) filled
-
-  -- a frozen cell is so
-  fixed_stay : (fixed : List FixedCell) → All (IsFrozenCell state.blocks state.cells) fixed
-      → All (IsFrozenCell (after s).blocks (after s).cells) fixed
-  fixed_stay fixed = All-weaker (IsFrozenCell state.blocks state.cells) (IsFrozenCell (after s).blocks (after s).cells)
-      (λ cell was. record {
-        generation = was.generation;
-        here = stays (names s) cell.at (Generation was.generation) was.here;
-        within = was.within;
-        frozen = was.frozen;
-        word = frozen_stays (names s) cell.at cell.place (subst IsFrozen (sym was.word) was.frozen) ∙ was.word;
-      }) fixed
-
-  -- an operation that was decided is so, with the same entry
-  decided : (from : ℕ) (block : Option Published) → state.blocks from ≡ block
-      → decided_entry ((after s).blocks from) ((after s).cells from 0) ≡ decided_entry block (state.cells from 0)
-  decided from None is = ⊎_elim
-      (λ (same : (from ≡ s.at) × ((after s).blocks from ≡ Some (Row (row s)))).
-      ap (λ (block : Option Published). decided_entry block ((after s).cells from 0)) same.1)
-      (λ (kept : (from ≢ s.at) × ((after s).blocks from ≡ state.blocks from)).
-      ap (λ (block : Option Published). decided_entry block ((after s).cells from 0)) (kept.1 ∙ is))
-      (updated-cases state.blocks s.at (Some (Row (row s))) from)
-  decided from (Some (Generation generation)) is =
-      ap (λ (block : Option Published). decided_entry block ((after s).cells from 0))
-      (stays (names s) from (Generation generation) is)
-  decided from (Some (Row other)) is =
-      ap (λ (block : Option Published). decided_entry block ((after s).cells from 0))
-      (stays (names s) from (Row other) is)
-  decided from (Some (Op op)) is = λ i. decided_entry (stays (names s) from (Op op) is i)
-      (result_stays (names s) from op is i)
-
-  -- so an operation in flight has the entry that it had
+  -- an operation in flight has the entry that it had
   flying : (flight : Option ℕ) → flying_entry (after s).blocks (after s).cells flight ≡ flying_entry state.blocks state.cells flight
-  flying None = refl
-  flying (Some from) = decided from (state.blocks from) refl
+  flying = flying_stays (names s)
 
   -- what stood has stood
   standing : KeepsStanding facts.keys state.blocks state.cells history (after s).blocks (after s).cells (new_history s)
-  standing = record {
-    rows = λ from other here. stays (names s) from (Row other) here;
-    generations = λ from other here. stays (names s) from (Generation other) here;
-    contents = λ from other key here. content_same (ops_keep (names s)) other key;
-    grows = (entry s ∷ [], refl);
-    frozen = λ from generation bucket here within odd. ⊎_elim
-        (λ (touched : (from ≡ s.may.turn.head) × (bucket ≡ s.may.bucket) × ((after s).cells from bucket ≡ mutable_word s.at)).
-        let is = touched.2 in absurd (omega arith))
-        (λ (kept : (after s).cells from bucket ≡ state.cells from bucket). inl kept)
-        (cell_cases (names s) from bucket);
-  }
+  standing = named_stands (names s) facts.keys history (new_history s) (entry s ∷ [], refl)
 
   -- what the views owe before and after
   abbrev Before : ℕ → PassView → Type 0
@@ -123,7 +67,7 @@ module _ {facts : RoundFacts} {words : List ℕ} {state : RoundState} {history :
   paid_stays : (view : PassView) → IsPaid (wins_of state.views) state.head state.cells view
       → IsPaid (wins_of (after s).views) state.head (after s).cells view
   paid_stays view paid = subst (λ (wins : ℕ). IsPaid wins state.head (after s).cells view) (sym wins_more)
-      (paid_more (wins_of state.views) state.head state.cells (after s).cells view paid)
+      (paid_more (wins_of state.views) state.head state.head state.cells (after s).cells view paid)
 
   -- another pass owes nothing more
   stay : (pass : ℕ) (view : PassView) → pass ≢ s.old.number → get_elem? state.views pass ≡ some view → Before pass view → After pass view
@@ -132,9 +76,9 @@ module _ {facts : RoundFacts} {words : List ℕ} {state : RoundState} {history :
       entries_by-other pass history (entry s) (λ same. apart (sym same ∙ own s)) in
       record {
         numbered = sees.numbered;
-        known = known_stays view.known sees.known;
-        filled = buckets_stay view.filled sees.filled;
-        fixed = fixed_stay view.fixed sees.fixed;
+        known = known_stays (names s) view.known sees.known;
+        filled = buckets_stay (names s) view.filled sees.filled;
+        fixed = fixed_stay (names s) view.fixed sees.fixed;
         begun = record {
           front = prefix_trans view.front history (new_history s) sees.begun.front (entry s ∷ [], refl);
           heard = prefix_trans view.heard history (new_history s) sees.begun.heard (entry s ∷ [], refl);
@@ -215,9 +159,9 @@ module _ {facts : RoundFacts} {words : List ℕ} {state : RoundState} {history :
       ap (flying_entry (after s).blocks (after s).cells) s.may.no_flight in
       record {
         numbered = record { same_round = was.numbered.same_round; is_pass = refl };
-        known = row_known;
-        filled = buckets_stay s.old.filled was.filled;
-        fixed = fixed_stay s.old.fixed was.fixed;
+        known = row_here;
+        filled = buckets_stay (names s) s.old.filled was.filled;
+        fixed = fixed_stay (names s) s.old.fixed was.fixed;
         begun = record {
           front = prefix_refl (new_history s);
           heard = prefix_trans s.old.heard history (new_history s) was.begun.heard (entry s ∷ [], refl);
@@ -240,7 +184,7 @@ module _ {facts : RoundFacts} {words : List ℕ} {state : RoundState} {history :
             let noted = hindsight_keeps standing s.old.number s.old was.hindsight in
             record { marks = noted.marks; heads = noted.heads; nils = noted.nils };
         given = given_published facts.keys (new_history s) (after s).blocks (known_block s.at (Row (row s)) ∷ s.old.known)
-            (stands s).given row_known;
+            (stands s).given row_here;
       }
 
   -- so the invariant holds after the exchange

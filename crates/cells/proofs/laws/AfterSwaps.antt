@@ -120,7 +120,7 @@ new_call_has_none pass sound new entry there =
     omega (arith, new, All-contains (λ (entry : Entry). entry.serial < pass.view.used) pass.view.mine entry sound.used there)
 
 -- a list each of whose keys is in another is in it
-inside_of : (keys list : List ℕ) → All (λ (key : ℕ). is_in list key ≡ true) keys → (key : ℕ) → is_in keys key ≡ true → is_in list key ≡ true
+pub inside_of : (keys list : List ℕ) → All (λ (key : ℕ). is_in list key ≡ true) keys → (key : ℕ) → is_in keys key ≡ true → is_in list key ≡ true
 inside_of [] list all key here = absurd (cc)
 inside_of (first ∷ keys) list all key here = elim (cases_Bool (nat_eq first key)) [
   | inl same ↦

@@ -1,5 +1,5 @@
 -- The word of a bucket of a known generation: where it stands, which row it names, and that the row has what the history leaves.
-use Rattle.std.proofs.Common.{◌≡◌, ℕ, List, [], ◌∷◌, get_or, Bool, true, ◌&&◌, ◌||◌, not, nat_eq, ◌⊎◌, inl, inr, ⊎_elim, Some, All, sym, ap, ap₂, ◌∙◌, subst, arith}
+use Rattle.std.proofs.Common.{◌≡◌, ◌≢◌, ℕ, List, [], ◌∷◌, get_or, Bool, true, ◌&&◌, ◌||◌, not, nat_eq, ◌⊎◌, inl, inr, ⊎_elim, Some, All, sym, ap, ap₂, ◌∙◌, subst, arith}
 use mathlib.Core.Option.{some}
 use lib.ListN.{get_elem?}
 use Rattle.std.proofs.lemmas.Bool.{cases_Bool}
@@ -27,7 +27,7 @@ use Rattle.cells.proofs.laws.Paid.{both_true, same_numbers}
 use Rattle.cells.proofs.laws.Sound.{sound_view}
 
 -- a bucket that is among those that are filled is
-among_filled : (cells : ℕ → ℕ → ℕ) (filled : List FilledBucket) (at bucket : ℕ) → All (IsFilled cells) filled
+pub among_filled : (cells : ℕ → ℕ → ℕ) (filled : List FilledBucket) (at bucket : ℕ) → All (IsFilled cells) filled
     → is_among filled at bucket ≡ true → ¬ IsNil (cells at bucket)
 among_filled cells [] at bucket all test = absurd (cc)
 among_filled cells (first ∷ others) at bucket all test = elim (cases_Bool (nat_eq first.at at && nat_eq first.bucket bucket)) [
@@ -88,16 +88,22 @@ module _ {facts : RoundFacts} {words : List ℕ} {state : RoundState} {history :
       (round.fits.holds.chain.filled at generation bucket published (inr first)))
       reason
 
-  -- a bucket of a generation that another is known to follow isn't nil
-  pub finds_followed : (later : ℕ) (newer : GenerationBlock) → KnowsGeneration old later newer → newer.predecessor ≡ at → ¬ IsNil word
-  finds_followed later newer known behind =
+  -- a generation that another is known to follow isn't the head,
+  pub followed_before : (later : ℕ) (newer : GenerationBlock) → KnowsGeneration old later newer → newer.predecessor ≡ at
+      → at ≢ state.head
+  followed_before later newer known behind same =
       let low = ((sound_view round old.number old there).blocks at (Generation generation) is.known).behind_base in
       let follows = round.fits.holds.chain.follows later newer
       (All-contains (IsPublished state.blocks) old.known (known_block later (Generation newer))
       (round.fits.known old.number old there) known)
       (λ none. let at_none : at ≡ 0 = sym behind ∙ none in absurd (omega (arith, low, at_none))) in
+      follows.not_head (behind ∙ same)
+
+  -- so its bucket isn't nil
+  pub finds_followed : (later : ℕ) (newer : GenerationBlock) → KnowsGeneration old later newer → newer.predecessor ≡ at → ¬ IsNil word
+  finds_followed later newer known behind =
       subst (λ (w : ℕ). ¬ IsNil w) spot_is
-      (round.fits.holds.chain.filled at generation bucket published (inl (λ same. follows.not_head (behind ∙ same))))
+      (round.fits.holds.chain.filled at generation bucket published (inl (followed_before later newer known behind)))
 
   -- a mutable row without an operation agrees on its class with the set after the history
   pub row_agrees : (row : RowBlock) → (¬ IsNil word → IsRow state.blocks (row_address word) row) → row.exponent ≡ generation.exponent

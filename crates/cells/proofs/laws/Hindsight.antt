@@ -61,6 +61,28 @@ module _ (keys : List ℕ) (blocks : ℕ → Option Published) (cells : ℕ → 
     held = λ key of. stood.held key (record { first = of.first; second = of.second });
   }
 
+-- a change after which each row has what it had, and the history has grown or stayed
+pub record KeepsRows (blocks : ℕ → Option Published) (cells : ℕ → ℕ → ℕ) (history : List Entry)
+    (new_blocks : ℕ → Option Published) (new_cells : ℕ → ℕ → ℕ) (new_history : List Entry) : Type 0 where
+  pub rows : (at : ℕ) (row : RowBlock) → IsRow blocks at row → IsRow new_blocks at row
+  pub contents : (at : ℕ) (row : RowBlock) (key : ℕ) → IsRow blocks at row
+      → row_content new_blocks new_cells row key ≡ row_content blocks cells row key
+  pub grows : IsPrefix history new_history
+
+-- after it a marked row that stood has stood
+pub stood_stays : {blocks : ℕ → Option Published} {cells : ℕ → ℕ → ℕ} {history : List Entry} {new_blocks : ℕ → Option Published}
+    {new_cells : ℕ → ℕ → ℕ} {new_history : List Entry} → KeepsRows blocks cells history new_blocks new_cells new_history
+    → (keys : List ℕ) (mark : Mark) → HasStood keys blocks cells history mark → HasStood keys new_blocks new_cells new_history mark
+stood_stays {history = history} {new_history = new_history} keeps keys mark stood = record {
+  row = stood.row;
+  here = keeps.rows mark.row stood.row stood.here;
+  home = stood.home;
+  past = stood.past;
+  further = stood.further;
+  begins = prefix_trans stood.past history new_history stood.begins keeps.grows;
+  held = λ key of. keeps.contents mark.row stood.row key stood.here ∙ stood.held key of;
+}
+
 -- a change after which all that stood has stood
 pub record KeepsStanding (keys : List ℕ) (blocks : ℕ → Option Published) (cells : ℕ → ℕ → ℕ) (history : List Entry)
     (new_blocks : ℕ → Option Published) (new_cells : ℕ → ℕ → ℕ) (new_history : List Entry) : Type 0 where
@@ -81,15 +103,8 @@ module _ {keys : List ℕ} {blocks : ℕ → Option Published} {cells : ℕ → 
     (keeps : KeepsStanding keys blocks cells history new_blocks new_cells new_history) where
   -- a marked row that stood has stood,
   pub stood_keeps : (mark : Mark) → HasStood keys blocks cells history mark → HasStood keys new_blocks new_cells new_history mark
-  stood_keeps mark stood = record {
-    row = stood.row;
-    here = keeps.rows mark.row stood.row stood.here;
-    home = stood.home;
-    past = stood.past;
-    further = stood.further;
-    begins = prefix_trans stood.past history new_history stood.begins keeps.grows;
-    held = λ key of. keeps.contents mark.row stood.row key stood.here ∙ stood.held key of;
-  }
+  stood_keeps mark stood =
+      stood_stays (record { rows = keeps.rows; contents = keeps.contents; grows = keeps.grows }) keys mark stood
 
   -- so have those that a head named,
   head_keeps : (load : HeadLoad) → StoodInHead keys blocks cells history load → StoodInHead keys new_blocks new_cells new_history load

@@ -11,7 +11,8 @@ use Rattle.step_core.specs.declared.published.GenerationBlock.{GenerationBlock}
 use Rattle.step_core.specs.declared.published.RowBlock.{RowBlock}
 use Rattle.step_core.specs.declared.views.Known.{Known}
 use Rattle.step_core.specs.declared.views.PassView.{PassView}
-use Rattle.cells.specs.Known.{known_block, KnowsBlock, KnowsRow, row_of, row_at, keys_at, has_bucket_at, generation_at, bucket_at, KnowsSealed, KnowsBucket, IsBucketWord}
+use Rattle.cells.specs.Known.{known_block, KnowsBlock, KnowsRow, KnowsGeneration, row_of, row_at, keys_at, has_bucket_at, generation_at, bucket_at, KnowsSealed, KnowsBucket, IsBucketWord}
+use Rattle.cells.specs.Lone.{generation_of, generation_in}
 use Rattle.cells.specs.Sound.{IsInBlock, IsSound}
 
 -- what a list with one more block in front contains
@@ -56,6 +57,30 @@ row_at-known view at row sound known =
 pub keys_at-known : (view : PassView) (at : ℕ) (row : RowBlock) → IsSound view → KnowsRow view at row
     → keys_at view at ≡ row.keys
 keys_at-known view at row sound known = ap (λ (row : RowBlock). row.keys) (row_at-known view at row sound known)
+
+-- where all that a list has at the address is the generation, the lookup finds it
+generation_in-only : (known : List Known) (at : ℕ) (none generation : GenerationBlock)
+    → ((block : Published) → Contains known (known_block at block) → block ≡ Generation generation)
+    → Contains known (known_block at (Generation generation)) → generation_in known at none ≡ generation
+generation_in-only [] at none generation only (index, lt, is) = absurd (omega arith)
+generation_in-only (first ∷ others) at none generation only there = elim (ℕ_discrete first.at at) [
+  | yes same ↦
+      let here : Contains (first ∷ others) (known_block at first.block) =
+      subst (λ (place : ℕ). Contains (first ∷ others) (known_block place first.block)) same (contains_first first others) in
+      ap (λ (b : Bool). cond b (generation_of first.block none) (generation_in others at none)) (eq-eqb first.at at same)
+      ∙ ap (λ (block : Published). generation_of block none) (only first.block here)
+  | no apart ↦
+      ap (λ (b : Bool). cond b (generation_of first.block none) (generation_in others at none)) (ne_eqb first.at at apart)
+      ∙ generation_in-only others at none generation (λ block is. only block (contains_later first others (known_block at block) is))
+      (⊎_elim (λ (e : first ≡ known_block at (Generation generation)). absurd (apart (ap (λ (known : Known). known.at) e)))
+      (λ later. later) (contains_more first others (known_block at (Generation generation)) there))
+]
+
+-- The generation that is known at an address is the one that the lookup finds.
+pub generation_in-known : (view : PassView) (at : ℕ) (none generation : GenerationBlock) → IsSound view → KnowsGeneration view at generation
+    → generation_in view.known at none ≡ generation
+generation_in-known view at none generation sound known =
+    generation_in-only view.known at none generation (λ block is. sound.one at block (Generation generation) is known) known
 
 -- What is known stays known, and what was learned is known.
 pub knows_more : (learned : List Known) (old new : PassView) → new.known ≡ learned ++ old.known

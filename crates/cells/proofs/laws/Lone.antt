@@ -117,6 +117,11 @@ pub ledger_of-next : (view : PassView) → (ledger_of view).next ≡ view.facts.
 unfolding ledger_of
 ledger_of-next view = refl
 
+-- the buckets that it has as untouched are,
+pub ledger_of-untouched : (view : PassView) (bucket : ℕ) → (ledger_of view).untouched bucket ≡ is_untouched view bucket
+unfolding ledger_of
+ledger_of-untouched view bucket = refl
+
 -- its keys are the set at the front,
 pub ledger_of-keys : (view : PassView) → (ledger_of view).keys ≡ keys_after view.facts.keys view.front
 unfolding ledger_of

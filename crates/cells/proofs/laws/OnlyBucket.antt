@@ -5,7 +5,7 @@ use Rattle.std.proofs.lemmas.Nat.{pow_pos}
 use Rattle.std.specs.List.Sorted.{IsStrictlyIncreasing}
 use Rattle.arena.specs.Hands.{words_at}
 use Rattle.step_core.specs.Content.{InClass}
-use Rattle.step_core.specs.Format.{row_address, row_words}
+use Rattle.step_core.specs.Format.{IsNil, IsMutable, row_address, row_words}
 use Rattle.step_core.specs.Rising.{Change, change_of}
 use Rattle.step_core.specs.declared.format.TheConstants.{FIRST_BUCKET}
 use Rattle.step_core.specs.declared.published.Published.TheVariants.{Generation, Row}
@@ -51,15 +51,16 @@ module _ (v0 v1 v2 : PassView) (head exponent : ℕ) (heads : LoadsHead v0 head 
   pub knows_first_bucket : KnowsBucket v2 (head + FIRST_BUCKET)
   knows_first_bucket = (head, 0, heads.generation, first_bucket)
 
-  module _ (v3 : PassView) (word : ℕ) (sound : IsSound v2) (loads : LoadsBucket (head + FIRST_BUCKET) v2 word v3) where
+  module _ (v3 : PassView) (word : ℕ) (sound : IsSound v2) (loads : LoadsBucket (head + FIRST_BUCKET) v2 word v3)
+      (some_row : ¬ IsNil word) where
     -- The first word of its row may be loaded.
     pub knows_row_count : KnowsSealed v3 (row_address word)
     knows_row_count = knows_count v3 (row_address word) loads.row
-        (load_bucket_knows (head + FIRST_BUCKET) v2 word v3 loads loads.so_far.some_row)
+        (load_bucket_knows (head + FIRST_BUCKET) v2 word v3 loads some_row)
 
     module _ (v4 : PassView) (count : ℕ) (sound_row : IsSound v3) (counts : LoadsSealed (row_address word) v3 count v4) where
       row_known : KnowsRow v3 (row_address word) (row_at v3.known (row_address word))
-      row_known = load_bucket_row_known (head + FIRST_BUCKET) v2 word v3 loads sound_row loads.so_far.some_row
+      row_known = load_bucket_row_known (head + FIRST_BUCKET) v2 word v3 loads sound_row some_row
 
       counted : v4 ≡ after_reads 1 v3
       counted = load_sealed_still (row_address word) v3 count v4 counts (row_address word) 0 (Row (row_at v3.known (row_address word)))
@@ -71,7 +72,7 @@ module _ (v0 v1 v2 : PassView) (head exponent : ℕ) (heads : LoadsHead v0 head 
 
       module _ (v5 : PassView) (at : ℕ) (keys : List ℕ) (writes : Writes at 0 (row_words keys) v4 v5)
           (long : length (words_at v0.hands at) ≡ length (row_words keys)) (sound_now : IsSound v5) (no_flight : v0.flight ≡ None)
-          (change : Change) (changes : change_of (keys_at v3 (row_address word)) keys ≡ Some change) where
+          (change : Change) (changes : change_of (keys_at v3 (row_address word)) keys ≡ Some change) (mutable : IsMutable word) where
         -- writing leaves what is known, and the turn
         same_known : v5.known ≡ v3.known
         same_known = ap (λ (v : PassView). v.known) writes.only ∙ ap (λ (v : PassView). v.known) counted
@@ -100,11 +101,11 @@ module _ (v0 v1 v2 : PassView) (head exponent : ℕ) (heads : LoadsHead v0 head 
         pub only_change : swap_change v5 word at ≡ Some change
         only_change = ready_change (head + FIRST_BUCKET) head 0 word at heads.generation v2 v3 v5
             (record { head = head; seen = heads.seen; loads = [] }) (ap (λ (v : PassView). v.turn) still ∙ load_head_turn v0 head v1 heads) refl
-            sound first_bucket loads [] same_known same_turn sound_now same_flight keys built change changes_now
+            sound first_bucket loads [] same_known same_turn sound_now same_flight some_row mutable keys built change changes_now
 
         -- and may be made, where the head has one bucket.
         pub only_ready : exponent ≡ 0 → IsStrictlyIncreasing keys → MaySwapRow v5 (head + FIRST_BUCKET) word at
         only_ready one rising = swap_ready (head + FIRST_BUCKET) head 0 word at heads.generation v2 v3 v5
             (record { head = head; seen = heads.seen; loads = [] }) (ap (λ (v : PassView). v.turn) still ∙ load_head_turn v0 head v1 heads) refl
-            sound first_bucket loads [] same_known same_turn sound_now same_flight keys built rising change changes_now
+            sound first_bucket loads [] same_known same_turn sound_now same_flight some_row mutable keys built rising change changes_now
             (subst (λ (e : ℕ). InClass e 0 change.key) (sym one ∙ exponent_is) (omega arith))

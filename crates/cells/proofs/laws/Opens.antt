@@ -20,7 +20,7 @@ use Rattle.step_core.proofs.tables.Begins.{each_fresh, opening_fits}
 use Rattle.step_core.proofs.lists.Above.{increasing}
 use Rattle.step_core.proofs.tables.Held.{opening_held}
 use Rattle.step_core.proofs.tables.Opened.{opening_table, opening_is_table}
-use Rattle.step_core.proofs.tables.Plain.{generation_there, each_block, each_generation, each_row}
+use Rattle.step_core.proofs.tables.Plain.{generation_there, each_block, each_row}
 use Rattle.step_core.proofs.tables.Written.{length-opening_of}
 use Rattle.step_core.proofs.tables.Fitting.{table_state}
 use Rattle.cells.specs.Begins.{MayBegin, IsOpeningOf, facts_from}

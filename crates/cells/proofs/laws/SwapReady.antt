@@ -4,7 +4,7 @@ use Rattle.std.specs.List.{Contains}
 use Rattle.std.specs.List.Sorted.{IsStrictlyIncreasing}
 use Rattle.arena.specs.Hands.{words_at}
 use Rattle.step_core.specs.Content.{InClass}
-use Rattle.step_core.specs.Format.{row_address, row_words}
+use Rattle.step_core.specs.Format.{IsNil, IsMutable, row_address, row_words}
 use Rattle.step_core.specs.Rising.{Change, change_of}
 use Rattle.step_core.specs.declared.format.TheConstants.{FIRST_BUCKET, FIRST_KEY}
 use Rattle.step_core.specs.declared.published.Published.TheVariants.{Generation, Row}
@@ -25,10 +25,10 @@ module _ (place at bucket word hand : ℕ) (generation : GenerationBlock) (befor
     (open_turn : before.turn ≡ Some turn) (head : turn.head ≡ at) (sound : IsSound before)
     (is_word : IsBucketWord before place at bucket generation) (loads : LoadsBucket place before word loaded)
     (learned : List Known) (knows : now.known ≡ learned ++ loaded.known) (same_turn : now.turn ≡ loaded.turn)
-    (sound_now : IsSound now) (no_flight : now.flight ≡ None) where
+    (sound_now : IsSound now) (no_flight : now.flight ≡ None) (some_row : ¬ IsNil word) (mutable : IsMutable word) where
   -- the row that the word names is known still
   row_known : KnowsRow now (row_address word) loads.row
-  row_known = knows_more learned loaded now knows (row_address word) (Row loads.row) (load_bucket_knows place before word loaded loads loads.so_far.some_row)
+  row_known = knows_more learned loaded now knows (row_address word) (Row loads.row) (load_bucket_knows place before word loaded loads some_row)
 
   named : named_row now word ≡ loads.row
   named = row_at-known now (row_address word) loads.row sound_now row_known
@@ -42,7 +42,7 @@ module _ (place at bucket word hand : ℕ) (generation : GenerationBlock) (befor
   -- the open turn has the load
   among : (open_now : OpenTurn) × (loaded.turn ≡ Some open_now) × (open_now.head ≡ turn.head) × (open_now.seen ≡ turn.seen)
       × (open_now.loads ≡ load_of at bucket word ∷ turn.loads)
-  among = load_bucket_among place before word loaded loads turn open_turn at bucket generation sound is_word loads.so_far.mutable
+  among = load_bucket_among place before word loaded loads turn open_turn at bucket generation sound is_word mutable
 
   here : among.0.head ≡ at
   here = among.2 ∙ head
@@ -71,8 +71,8 @@ module _ (place at bucket word hand : ℕ) (generation : GenerationBlock) (befor
       here = is_word.here ∙ ap (λ (h : ℕ). h + FIRST_BUCKET + bucket) (sym here);
     };
     loaded = subst (λ (z : List BucketLoad × ℕ). Contains z.0 (load_of z.1 bucket word)) (λ i. (sym among.4 i, sym here i)) (0, omega arith, refl);
-    some_row = loads.so_far.some_row;
-    mutable = loads.so_far.mutable;
+    some_row = some_row;
+    mutable = mutable;
     known = named_known;
     settled = inl plain;
     keys = keys;

@@ -1,5 +1,5 @@
 -- What it means that an exchange of a row may be made: the row in hand is the known row after one call, and has its home.
-use Rattle.std.proofs.Common.{◌≡◌, ◌*◌, ◌^◌, ℕ, ◌<◌, ◌==◌, if◌then◌else◌, true, List, length, drop, All, sym, ap, ◌∙◌, subst, arith}
+use Rattle.std.proofs.Common.{◌≡◌, ◌*◌, ◌^◌, ℕ, ◌<◌, ◌==◌, if◌then◌else◌, true, List, All, sym, ap, ◌∙◌, subst}
 use Rattle.std.specs.List.Sorted.{IsStrictlyIncreasing}
 use Rattle.set_model.specs.declared.entry.Entry.{Entry}
 use Rattle.arena.specs.Hands.{words_at}
@@ -8,7 +8,6 @@ use Rattle.step_core.specs.Fits.{HoldsClass}
 use Rattle.step_core.specs.Format.{row_words}
 use Rattle.step_core.specs.Rising.{IsChange, change_of}
 use Rattle.set_model.specs.declared.call.Call.TheVariants.{Insert}
-use Rattle.step_core.specs.declared.format.TheConstants.{FIRST_KEY}
 use Rattle.step_core.specs.declared.published.RowBlock.{RowBlock}
 use Rattle.step_core.specs.declared.views.PassView.{PassView}
 use Rattle.step_core.proofs.lists.Change.{change_of-only}
@@ -16,7 +15,8 @@ use Rattle.step_core.proofs.lists.Each.{all_after_call}
 use Rattle.cells.specs.Exchanges.{content_keys, fixed_at, list_with_op, named_row, hand_keys, entry_by, swap_entry, swapped_row, MaySwapRow}
 use Rattle.cells.specs.Known.{block_at}
 use Rattle.cells.specs.Sound.{IsSound}
-use Rattle.cells.proofs.laws.Within.{hand_within, bucket_within}
+use Rattle.cells.proofs.laws.BuiltRow.{built_keys, built_row, built_fits}
+use Rattle.cells.proofs.laws.Within.{bucket_within}
 
 -- the content of a row without an operation is its keys
 pub content_keys-plain : (view : PassView) (row : RowBlock) → row.op ≡ 0 → content_keys view row ≡ row.keys
@@ -24,19 +24,13 @@ content_keys-plain view row plain =
     λ i. if plain i == 0 then row.keys else list_with_op (block_at view.known (plain i)) (fixed_at view.fixed (plain i) 0) row.keys
 
 module _ (view : PassView) (place old at : ℕ) (may : MaySwapRow view place old at) where
-  -- the keys in hand are those of the row that was written
-  hand_is : hand_keys view at ≡ may.keys
-  hand_is = ap (drop FIRST_KEY) may.built
-
-  -- so its words stand in the hand
+  -- the words of the row that was written stand in the hand
   pub hand_row : words_at view.hands at ≡ row_words (hand_keys view at)
-  hand_row = may.built ∙ ap row_words (sym hand_is)
+  hand_row = built_row view at may.keys may.built
 
-  -- the row in hand lies in the arena, so its bucket word is a word
+  -- its bucket word is a word
   pub swap_fits : IsSound view → 2 * at < 2 ^ 64
-  swap_fits sound =
-      let within = hand_within view sound at 0 (omega (arith, ap length hand_row)) in
-      let small = within.small in omega arith
+  swap_fits = built_fits view at may.keys may.built
 
   -- and so is the bucket's place
   pub swap_within : IsSound view → place < view.facts.cap
@@ -44,7 +38,7 @@ module _ (view : PassView) (place old at : ℕ) (may : MaySwapRow view place old
 
   -- its keys rise
   pub hand_rising : IsStrictlyIncreasing (hand_keys view at)
-  hand_rising = subst IsStrictlyIncreasing (sym hand_is) may.rising
+  hand_rising = subst IsStrictlyIncreasing (sym (built_keys view at may.keys may.built)) may.rising
 
   -- the entry is that of the change
   abbrev pub change_entry : ℕ → Entry

@@ -1,5 +1,5 @@
 -- What stands after an exchange that found its word: the row is published in the place of the other, and the history has its entry.
-use Rattle.std.proofs.Common.{◌≡◌, ⊎_elim, ℕ, ◌<◌, ◌≤◌, List, [], ◌∷◌, ◌++◌, length, get_or, set, map, Some, All, refl, sym, ap, ◌∙◌, subst, arith, append-nil, length-set}
+use Rattle.std.proofs.Common.{◌≡◌, ⊎_elim, ℕ, ◌<◌, ◌≤◌, List, [], ◌∷◌, ◌++◌, length, get_or, set, map, Some, All, refl, sym, ap, ◌∙◌, subst, arith, length-set}
 use mathlib.Core.Option.{some}
 use lib.ListN.{get_elem?}
 use native.Mathlib.Decide.{ℕ_discrete}
@@ -11,31 +11,22 @@ use Rattle.set_model.specs.History.{members_after}
 use Rattle.set_model.specs.Keys.{is_in}
 use Rattle.set_model.specs.declared.entry.Entry.{Entry}
 use Rattle.set_model.proofs.LawHistory.{IsLegal-push}
-use Rattle.arena.specs.Hands.{words_at}
-use Rattle.arena.specs.LaidOut.{IsRange, published_words}
-use Rattle.arena.specs.Laws.{IsReady}
-use Rattle.arena.specs.Moves.{with_cell, after_publish}
-use Rattle.arena.specs.Owners.{hand}
-use Rattle.arena.proofs.keeps.Cell.{cell_keeps}
-use Rattle.arena.proofs.keeps.Publish.{publish_keeps}
-use Rattle.arena.proofs.laws.Apart.{hands_are_new}
 use Rattle.arena.proofs.laws.Hands.{KeepsFronts-refl}
 use Rattle.step_core.specs.Content.{InClass}
 use Rattle.step_core.specs.Fits.{IsPublished, HoldsClass}
-use Rattle.step_core.specs.Format.{IsNil, IsMutable, row_address, row_words, mutable_word, sealed_words, open_words}
+use Rattle.step_core.specs.Format.{IsNil, IsMutable, row_address, mutable_word}
 use Rattle.step_core.specs.Members.{row_content}
 use Rattle.step_core.specs.Rising.{IsChange}
-use Rattle.step_core.specs.States.{RoundState, AreLaidOut, IsRow, hands_of}
-use Rattle.step_core.specs.declared.published.Published.TheVariants.{Generation, Row}
+use Rattle.step_core.specs.States.{RoundState, AreLaidOut, IsRow}
+use Rattle.step_core.specs.declared.published.Published.TheVariants.{Row}
 use Rattle.step_core.specs.declared.published.RowBlock.{RowBlock}
 use Rattle.step_core.specs.declared.views.PassView.{PassView}
 use Rattle.step_core.specs.declared.views.RoundFacts.{RoundFacts}
 use Rattle.step_core.proofs.changes.Members.{changes_members, members_changed}
-use Rattle.step_core.proofs.changes.Named.{Names, homes_stay, announces_stay, stays, row_was, op_was}
+use Rattle.step_core.proofs.changes.Named.{Names, homes_stay, announces_stay, row_was, op_was}
 use Rattle.step_core.proofs.changes.Replaced.{Replaces, replacing, chain_replaced}
 use Rattle.step_core.proofs.seen.Held.{row_content-plain}
-use Rattle.step_core.proofs.seen.Shown.{some_word}
-use Rattle.cells.specs.Exchanges.{named_row, hand_keys, swap_entry, swapped_row, MaySwapRow, view_after_swap_row}
+use Rattle.cells.specs.Exchanges.{named_row, swap_entry, swapped_row, MaySwapRow, view_after_swap_row}
 use Rattle.cells.specs.Invariant.{HoldsRound}
 use Rattle.cells.specs.Known.{known_block}
 use Rattle.cells.specs.Past.{IsGiven, HasGivenKeys, IsOfPasses, IsInOrder, entries_by}
@@ -45,6 +36,7 @@ use Rattle.cells.proofs.laws.FoundBucket.{published, word_is, row_there}
 use Rattle.cells.proofs.laws.Given.{given_row, given_inserted}
 use Rattle.cells.proofs.laws.Sound.{sound_view}
 use Rattle.cells.proofs.laws.Swaps.{hand_row, entry_is, is_change, all_hand, swapped_holds}
+use Rattle.cells.proofs.parts.PublishRow.{hand_unpublished, hand_place, with_hand_row, hand_row_laid}
 use Rattle.cells.proofs.parts.PutState.{Stands, there_inside}
 
 -- an exchange that finds its word, in a round of which the invariant holds
@@ -127,16 +119,11 @@ module _ {facts : RoundFacts} {words : List ℕ} {state : RoundState} {history :
         ap (λ (row : RowBlock). row.bucket) (sym same) ∙ home.bucket ∙ mod-eq_of_lt may.is_word.within,
       )
 
-  -- the block in hand has words, as a row has
-  long : 0 < length (words_at old.hands at)
-  long = omega (arith, ap length (hand_row old place word at may))
-
   -- the row may take the place of the other
   pub replaces : Replaces state.blocks state.cells may.turn.head may.bucket may.generation at row
   replaces = record {
-    unpublished = hands_are_new sealed_words open_words hands_of round.fits.holds.laid some_word old.number at
-        (record { view = old; is_view = there; begun = omega arith; within = omega (arith, long) });
-    some_place = omega (arith, (sound.hands at at (record { begun = omega arith; within = omega (arith, long) })).behind_base);
+    unpublished = hand_unpublished round old there at row (hand_row old place word at may);
+    some_place = hand_place round old there at row (hand_row old place word at may);
     here = published round old there place may.turn.head may.bucket may.generation may.is_word;
     spot = mod-eq_of_lt may.is_word.within;
     filled = subst (λ (w : ℕ). ¬ IsNil w) (sym cell_is) may.some_row;
@@ -156,31 +143,15 @@ module _ {facts : RoundFacts} {words : List ℕ} {state : RoundState} {history :
   new_view = view_after_swap_row history s.serial word at old
 
   abbrev pub after : RoundState
-  after = with_cell (after_publish sealed_words open_words state old.number new_view at (Row row))
-      may.turn.head may.bucket (mutable_word at)
+  after = with_hand_row round old there at row (hand_row old place word at may) names may.is_word.within new_view (KeepsFronts-refl new_view.hands)
 
   abbrev pub new_words : List ℕ
   new_words = set words place (mutable_word at)
 
-  -- the row's words are those in hand
-  words_are : words_at old.hands at ≡ published_words sealed_words open_words (Row row)
-  words_are = hand_row old place word at may ∙ sym (append-nil (row_words (hand_keys old at)))
-
-  ready : IsReady sealed_words open_words words state.owners old.number at (Row row)
-  ready = record {
-    in_hand = subst (λ (list : List ℕ). IsRange words state.owners at list (hand old.number at)) words_are
-        (round.fits.holds.laid.hands old.number old there at);
-    some_word = omega arith;
-  }
-
   -- the words show the state
   laid : AreLaidOut (length words) facts.seats new_words after
-  laid =
-      let shown = publish_keeps sealed_words open_words hands_of round.fits.holds.laid old.number new_view at (Row row) ready
-      (record { old = old; is_view = there; fronts = KeepsFronts-refl new_view.hands }) in
-      subst (λ (p : ℕ). AreLaidOut (length words) facts.seats (set words p (mutable_word at)) after) (sym may.is_word.here)
-      (cell_keeps sealed_words open_words hands_of shown may.turn.head may.bucket (mutable_word at) (Generation may.generation)
-      (stays names may.turn.head (Generation may.generation) replaces.here) may.is_word.within)
+  laid = subst (λ (p : ℕ). AreLaidOut (length words) facts.seats (set words p (mutable_word at)) after) (sym may.is_word.here)
+      (hand_row_laid round old there at row (hand_row old place word at may) names may.is_word.within new_view (KeepsFronts-refl new_view.hands))
 
   -- the call is a change, and its entry tells it
   change : IsChange before.keys row.keys entry.call entry.key

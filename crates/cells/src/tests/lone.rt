@@ -1,5 +1,5 @@
 // A pass that is the only one, by public clauses alone: its ledger tells what each step finds.
-ghost use Rattle.std.specs.Prelude.{◌≡◌, ◌≤◌, ◌+◌, ◌<◌, ◌^◌, IfOk, is_err};
+ghost use Rattle.std.specs.Prelude.{◌≡◌, ◌≤◌, ◌+◌, ◌<◌, ◌^◌, false, IfOk, is_err};
 ghost use Rattle.cells.specs.Known.{keys_at};
 ghost use Rattle.cells.specs.Lone.{EndsAs, ledger_of};
 ghost use Rattle.cells.specs.Tokens.{IsPassOf, IsSamePass};
@@ -27,11 +27,12 @@ fn draw_as_told(round: &Round, pass: &mut Pass, len: u64) -> Result<u64, Full>
     }
 }
 
-// The word of the head's first bucket. It isn't nil and not frozen, its row has what the ledger
-// says, and the pass has lost no turn.
+// The word of the head's first bucket, which isn't untouched. It isn't nil and not frozen, its row has
+// what the ledger says, and the pass has lost no turn.
 fn load_first_bucket(round: &Round, pass: &mut Pass) -> u64
     requires pass { IsPassOf round.now pass.old }
     requires alone { pass.old.view.facts.seats ≡ 1 }
+    requires filled { (ledger_of pass.old.view).untouched 0 ≡ false }
     ensures pass { IsSamePass pass.old pass.new }
     ensures ledger { ledger_of pass.new.view ≡ ledger_of pass.old.view }
     ensures filled { ¬ IsNil result }

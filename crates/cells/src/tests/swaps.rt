@@ -34,8 +34,8 @@ struct Ready {
     block: Block,
 }
 
-// One turn up to its exchange, which puts the key into the only bucket. The bucket is loaded, and
-// its row must have no keys; the block is written anew.
+// One turn up to its exchange, which puts the key into the only bucket. The bucket is loaded: it must
+// be neither nil nor frozen, and its row have no keys. The block is written anew.
 fn ready_to_put(round: &Round, pass: &mut Pass, mut block: Block, key: u64) -> Result<Ready, Block>
     requires pass { IsPassOf round.now pass.old }
     requires flight { pass.old.view.flight ≡ None }
@@ -56,8 +56,11 @@ fn ready_to_put(round: &Round, pass: &mut Pass, mut block: Block, key: u64) -> R
     round.sound(pass);
     let word = round.load_bucket(pass, head + FIRST_BUCKET);
     round.sound(pass);
+    if exponent != 0 || word == 0 || word % 2 == 1 {
+        return Err(block);
+    }
     let count = round.load_sealed(pass, word / 2);
-    if exponent != 0 || count != 0 {
+    if count != 0 {
         return Err(block);
     }
     round.sound(pass);
@@ -73,8 +76,8 @@ fn ready_to_put(round: &Round, pass: &mut Pass, mut block: Block, key: u64) -> R
     })
 }
 
-// One turn up to its exchange, which takes the only key out of the only bucket. The block has room
-// for a row without keys.
+// One turn up to its exchange, which takes the only key out of the only bucket, where that is neither
+// nil nor frozen. The block has room for a row without keys.
 fn ready_to_take(round: &Round, pass: &mut Pass, mut block: Block) -> Result<Ready, Block>
     requires pass { IsPassOf round.now pass.old }
     requires flight { pass.old.view.flight ≡ None }
@@ -90,8 +93,11 @@ fn ready_to_take(round: &Round, pass: &mut Pass, mut block: Block) -> Result<Rea
     round.sound(pass);
     let word = round.load_bucket(pass, head + FIRST_BUCKET);
     round.sound(pass);
+    if exponent != 0 || word == 0 || word % 2 == 1 {
+        return Err(block);
+    }
     let count = round.load_sealed(pass, word / 2);
-    if exponent != 0 || count != 1 {
+    if count != 1 {
         return Err(block);
     }
     round.sound(pass);

@@ -14,7 +14,7 @@ use Rattle.step_core.specs.declared.published.Published.TheVariants.{Generation,
 use Rattle.step_core.specs.declared.published.GenerationBlock.{GenerationBlock}
 use Rattle.step_core.specs.declared.published.OpBlock.{OpBlock}
 use Rattle.step_core.proofs.changes.Held.{KeepsOps, block_content}
-use Rattle.step_core.proofs.seen.FrozenWord.{frozen_odd, frozen_names, frozen_filled}
+use Rattle.step_core.proofs.seen.FrozenWord.{frozen_names, frozen_filled, frozen_same}
 
 -- the bucket is one of a published generation that isn't the head
 pub record Freezes (head : ℕ) (blocks : ℕ → Option Published) (g bucket : ℕ) (generation : GenerationBlock) : Type 0 where
@@ -55,13 +55,17 @@ module _ {head : ℕ} {blocks : ℕ → Option Published} {g bucket : ℕ} {gene
       (λ (old : with_frozen from k ≡ cells from k). ap row_address old)
       (frozen_cases from k)
 
-  -- one that is frozen stays so,
-  pub still_frozen : (from k : ℕ) → IsFrozen (cells from k) → IsFrozen (with_frozen from k)
-  still_frozen from k odd = ⊎_elim
+  -- one that is frozen has the word that it had,
+  pub frozen_stays : (from k : ℕ) → IsFrozen (cells from k) → with_frozen from k ≡ cells from k
+  frozen_stays from k odd = ⊎_elim
       (λ (touched : (from ≡ g) × (k ≡ bucket) × (with_frozen from k ≡ frozen_word (cells from k))).
-      subst IsFrozen (sym touched.2) (frozen_odd (cells from k)))
-      (λ (old : with_frozen from k ≡ cells from k). subst IsFrozen (sym old) odd)
+      touched.2 ∙ frozen_same (cells from k) odd)
+      (λ (old : with_frozen from k ≡ cells from k). old)
       (frozen_cases from k)
+
+  -- so it is frozen,
+  pub still_frozen : (from k : ℕ) → IsFrozen (cells from k) → IsFrozen (with_frozen from k)
+  still_frozen from k odd = subst IsFrozen (sym (frozen_stays from k odd)) odd
 
   -- one that is filled stays so,
   pub still_filled : (from k : ℕ) → ¬ IsNil (cells from k) → ¬ IsNil (with_frozen from k)

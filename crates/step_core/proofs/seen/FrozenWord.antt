@@ -26,3 +26,10 @@ frozen_names word =
 -- it isn't nil
 pub frozen_filled : (word : ℕ) → ¬ IsNil (frozen_word word)
 frozen_filled word nil = let odd = frozen_odd word in absurd (omega (arith, odd, nil))
+
+-- one that is odd already is as it was
+pub frozen_same : (word : ℕ) → IsFrozen word → frozen_word word ≡ word
+frozen_same word odd =
+    let names = frozen_names word in
+    let still_odd = frozen_odd word in
+    omega (arith, names, still_odd, odd)

@@ -10,7 +10,7 @@ use Rattle.cells.proofs.laws.OnlyBucket.{knows_exponent, knows_first_bucket, kno
 use Rattle.cells.proofs.laws.Within.{bucket_within}
 use Rattle.cells.proofs.laws.WritesAddUp.{writes_both}
 use Rattle.std.proofs.lemmas.List.{nil_from_length}
-use Rattle.step_core.specs.Format.{row_address}
+use Rattle.step_core.specs.Format.{IsNil, IsMutable, row_address}
 use Rattle.cells.specs.Known.{keys_at}
 use Rattle.cells.proofs.tests.swaps.ready_to_put.Goals as goal
 
@@ -41,9 +41,10 @@ load_bucket-word-requires-clause-knows c =
 -- the row's first word may be loaded
 pub load_sealed-count-requires-clause-knows : goal.load_sealed-count-requires-clause-knows
 load_sealed-count-requires-clause-knows c =
+    let some_row : ¬ IsNil c.load_bucket-word.result = search rules in
     knows_row_count c.args.pass.now.view c.load_head-head.new.pass.view c.load_sealed-exponent.new.pass.view c.load_head-head.result
     c.load_sealed-exponent.result c.load_head-head.ensures.answer c.load_sealed-exponent.ensures.answer c.load_bucket-word.new.pass.view
-    c.load_bucket-word.result c.sound-2.ensures.view c.load_bucket-word.ensures.answer
+    c.load_bucket-word.result c.sound-2.ensures.view c.load_bucket-word.ensures.answer some_row
 
 -- the bucket's word lies in the arena
 pub overflow_add-result : goal.overflow_add-result
@@ -67,18 +68,20 @@ returns-clause-ready c =
     (subst (λ (a : ℕ). Writes a 2 (0 ∷ []) c.write-2.new.pass.view c.write-3.new.pass.view) place2 c.write-3.ensures.writes) in
     let writes4 = writes_both at 0 3 (1 ∷ 0 ∷ 0 ∷ []) (c.args.key ∷ []) c.load_sealed-count.new.pass.view c.write-3.new.pass.view c.write-4.new.pass.view refl writes3
     (subst (λ (a : ℕ). Writes a 3 (c.args.key ∷ []) c.write-3.new.pass.view c.write-4.new.pass.view) place3 c.write-4.ensures.writes) in
+    let some_row : ¬ IsNil c.load_bucket-word.result = search rules in
+    let mutable : IsMutable c.load_bucket-word.result = search rules in
     let count = counts_keys c.args.pass.now.view c.load_head-head.new.pass.view c.load_sealed-exponent.new.pass.view c.load_head-head.result
     c.load_sealed-exponent.result c.load_head-head.ensures.answer c.load_sealed-exponent.ensures.answer c.load_bucket-word.new.pass.view
-    c.load_bucket-word.result c.sound-2.ensures.view c.load_bucket-word.ensures.answer c.load_sealed-count.new.pass.view c.load_sealed-count.result
+    c.load_bucket-word.result c.sound-2.ensures.view c.load_bucket-word.ensures.answer some_row c.load_sealed-count.new.pass.view c.load_sealed-count.result
     c.sound-3.ensures.view c.load_sealed-count.ensures.answer in
     let no_keys : c.load_sealed-count.result ≡ 0 = search rules in
     let changes = first_key (keys_at c.load_bucket-word.new.pass.view (row_address c.load_bucket-word.result)) c.args.key (count ∙ no_keys) in
     subst (MaySwapRow c.write-4.new.pass.view (c.load_head-head.result + FIRST_BUCKET) c.load_bucket-word.result) (sym place4)
     (only_ready c.args.pass.now.view c.load_head-head.new.pass.view c.load_sealed-exponent.new.pass.view c.load_head-head.result
     c.load_sealed-exponent.result c.load_head-head.ensures.answer c.load_sealed-exponent.ensures.answer c.load_bucket-word.new.pass.view
-    c.load_bucket-word.result c.sound-2.ensures.view c.load_bucket-word.ensures.answer c.load_sealed-count.new.pass.view c.load_sealed-count.result
+    c.load_bucket-word.result c.sound-2.ensures.view c.load_bucket-word.ensures.answer some_row c.load_sealed-count.new.pass.view c.load_sealed-count.result
     c.sound-3.ensures.view c.load_sealed-count.ensures.answer c.write-4.new.pass.view at (c.args.key ∷ []) writes4 c.requires.block c.sound-5.ensures.view c.requires.flight
-    (record { call = Insert; key = c.args.key }) changes (search rules) (increasing (c.args.key ∷ []) tt))
+    (record { call = Insert; key = c.args.key }) changes mutable (search rules) (increasing (c.args.key ∷ []) tt))
 
 -- and makes that change
 pub returns-clause-change : goal.returns-clause-change
@@ -94,14 +97,16 @@ returns-clause-change c =
     (subst (λ (a : ℕ). Writes a 2 (0 ∷ []) c.write-2.new.pass.view c.write-3.new.pass.view) place2 c.write-3.ensures.writes) in
     let writes4 = writes_both at 0 3 (1 ∷ 0 ∷ 0 ∷ []) (c.args.key ∷ []) c.load_sealed-count.new.pass.view c.write-3.new.pass.view c.write-4.new.pass.view refl writes3
     (subst (λ (a : ℕ). Writes a 3 (c.args.key ∷ []) c.write-3.new.pass.view c.write-4.new.pass.view) place3 c.write-4.ensures.writes) in
+    let some_row : ¬ IsNil c.load_bucket-word.result = search rules in
+    let mutable : IsMutable c.load_bucket-word.result = search rules in
     let count = counts_keys c.args.pass.now.view c.load_head-head.new.pass.view c.load_sealed-exponent.new.pass.view c.load_head-head.result
     c.load_sealed-exponent.result c.load_head-head.ensures.answer c.load_sealed-exponent.ensures.answer c.load_bucket-word.new.pass.view
-    c.load_bucket-word.result c.sound-2.ensures.view c.load_bucket-word.ensures.answer c.load_sealed-count.new.pass.view c.load_sealed-count.result
+    c.load_bucket-word.result c.sound-2.ensures.view c.load_bucket-word.ensures.answer some_row c.load_sealed-count.new.pass.view c.load_sealed-count.result
     c.sound-3.ensures.view c.load_sealed-count.ensures.answer in
     let no_keys : c.load_sealed-count.result ≡ 0 = search rules in
     let changes = first_key (keys_at c.load_bucket-word.new.pass.view (row_address c.load_bucket-word.result)) c.args.key (count ∙ no_keys) in
     subst (λ (a : ℕ). swap_change c.write-4.new.pass.view c.load_bucket-word.result a ≡ Some (record { call = Insert; key = c.args.key })) (sym place4)
     (only_change c.args.pass.now.view c.load_head-head.new.pass.view c.load_sealed-exponent.new.pass.view c.load_head-head.result
     c.load_sealed-exponent.result c.load_head-head.ensures.answer c.load_sealed-exponent.ensures.answer c.load_bucket-word.new.pass.view
-    c.load_bucket-word.result c.sound-2.ensures.view c.load_bucket-word.ensures.answer c.load_sealed-count.new.pass.view c.load_sealed-count.result
-    c.sound-3.ensures.view c.load_sealed-count.ensures.answer c.write-4.new.pass.view at (c.args.key ∷ []) writes4 c.requires.block c.sound-5.ensures.view c.requires.flight (record { call = Insert; key = c.args.key }) changes)
+    c.load_bucket-word.result c.sound-2.ensures.view c.load_bucket-word.ensures.answer some_row c.load_sealed-count.new.pass.view c.load_sealed-count.result
+    c.sound-3.ensures.view c.load_sealed-count.ensures.answer c.write-4.new.pass.view at (c.args.key ∷ []) writes4 c.requires.block c.sound-5.ensures.view c.requires.flight (record { call = Insert; key = c.args.key }) changes mutable)

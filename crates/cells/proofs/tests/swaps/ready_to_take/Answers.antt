@@ -9,7 +9,7 @@ use Rattle.cells.specs.Tokens.{BlockValue}
 use Rattle.cells.proofs.laws.OnlyBucket.{knows_exponent, knows_first_bucket, knows_row_count, counts_keys, only_ready}
 use Rattle.cells.proofs.laws.Within.{bucket_within}
 use Rattle.cells.proofs.laws.WritesAddUp.{writes_both}
-use Rattle.step_core.specs.Format.{row_address}
+use Rattle.step_core.specs.Format.{IsNil, IsMutable, row_address}
 use Rattle.step_core.specs.Rising.{Change}
 use Rattle.cells.specs.Known.{keys_at}
 use Rattle.cells.proofs.tests.swaps.ready_to_take.Goals as goal
@@ -43,9 +43,10 @@ load_bucket-word-requires-clause-knows c =
 -- the row's first word may be loaded
 pub load_sealed-count-requires-clause-knows : goal.load_sealed-count-requires-clause-knows
 load_sealed-count-requires-clause-knows c =
+    let some_row : ¬ IsNil c.load_bucket-word.result = search rules in
     knows_row_count c.args.pass.now.view c.load_head-head.new.pass.view c.load_sealed-exponent.new.pass.view c.load_head-head.result
     c.load_sealed-exponent.result c.load_head-head.ensures.answer c.load_sealed-exponent.ensures.answer c.load_bucket-word.new.pass.view
-    c.load_bucket-word.result c.sound-2.ensures.view c.load_bucket-word.ensures.answer
+    c.load_bucket-word.result c.sound-2.ensures.view c.load_bucket-word.ensures.answer some_row
 
 -- the bucket's word lies in the arena
 pub overflow_add-result : goal.overflow_add-result
@@ -66,15 +67,17 @@ returns-clause-ready c =
     (subst (λ (a : ℕ). Writes a 1 (0 ∷ []) c.write.new.pass.view c.write-2.new.pass.view) place1 c.write-2.ensures.writes) in
     let writes3 = writes_both at 0 2 (0 ∷ 0 ∷ []) (0 ∷ []) c.load_sealed-count.new.pass.view c.write-2.new.pass.view c.write-3.new.pass.view refl writes2
     (subst (λ (a : ℕ). Writes a 2 (0 ∷ []) c.write-2.new.pass.view c.write-3.new.pass.view) place2 c.write-3.ensures.writes) in
+    let some_row : ¬ IsNil c.load_bucket-word.result = search rules in
+    let mutable : IsMutable c.load_bucket-word.result = search rules in
     let count = counts_keys c.args.pass.now.view c.load_head-head.new.pass.view c.load_sealed-exponent.new.pass.view c.load_head-head.result
     c.load_sealed-exponent.result c.load_head-head.ensures.answer c.load_sealed-exponent.ensures.answer c.load_bucket-word.new.pass.view
-    c.load_bucket-word.result c.sound-2.ensures.view c.load_bucket-word.ensures.answer c.load_sealed-count.new.pass.view c.load_sealed-count.result
+    c.load_bucket-word.result c.sound-2.ensures.view c.load_bucket-word.ensures.answer some_row c.load_sealed-count.new.pass.view c.load_sealed-count.result
     c.sound-3.ensures.view c.load_sealed-count.ensures.answer in
     let one_key : c.load_sealed-count.result ≡ 1 = search rules in
     let last = last_key (keys_at c.load_bucket-word.new.pass.view (row_address c.load_bucket-word.result)) (count ∙ one_key) in
     subst (MaySwapRow c.write-3.new.pass.view (c.load_head-head.result + FIRST_BUCKET) c.load_bucket-word.result) (sym place3)
     (only_ready c.args.pass.now.view c.load_head-head.new.pass.view c.load_sealed-exponent.new.pass.view c.load_head-head.result
     c.load_sealed-exponent.result c.load_head-head.ensures.answer c.load_sealed-exponent.ensures.answer c.load_bucket-word.new.pass.view
-    c.load_bucket-word.result c.sound-2.ensures.view c.load_bucket-word.ensures.answer c.load_sealed-count.new.pass.view c.load_sealed-count.result
+    c.load_bucket-word.result c.sound-2.ensures.view c.load_bucket-word.ensures.answer some_row c.load_sealed-count.new.pass.view c.load_sealed-count.result
     c.sound-3.ensures.view c.load_sealed-count.ensures.answer c.write-3.new.pass.view at [] writes3 c.requires.block c.sound-5.ensures.view c.requires.flight
-    last.0 last.1 (search rules) (increasing [] tt))
+    last.0 last.1 mutable (search rules) (increasing [] tt))

@@ -14,6 +14,7 @@ pub mod FilledByTwo
 pub mod Naming
 pub mod Looking
 pub mod Ensuring
+pub mod Seeking
 pub mod Meeting
 pub mod LookedUp
 pub mod Sought

@@ -1,5 +1,5 @@
 -- Filling a bucket of a generation from the one before.
-use Rattle.std.specs.Prelude.{◌≡◌, ◌≢◌, ℕ, ◌+◌, ◌≤◌, ◌⊎◌, true, List, [], ◌∷◌, None}
+use Rattle.std.specs.Prelude.{◌≡◌, ℕ, ◌+◌, ◌≤◌, ◌⊎◌, true, [], ◌∷◌, None}
 use Rattle.step_core.specs.Format.{IsFrozen, row_address}
 use Rattle.step_core.specs.declared.format.TheConstants.{FIRST_BUCKET}
 use Rattle.step_core.specs.declared.published.Published.TheVariants.{Row}
@@ -99,6 +99,7 @@ OnlyFillSteps before after = after ≡ record before {
 pub record OnlyFills (before after : StepCounts) : Type 0 where
   pub only : OnlyFillSteps before after
   pub draws : after.draws ≤ before.draws + 1
+  pub no_fewer : before.fills ≤ after.fills
   pub fills : after.fills ≤ before.fills + 1
   pub freezes : after.freezes ≤ before.freezes + 2
 
@@ -120,6 +121,7 @@ pub record RefusesFilling (old new : PassView) : Type 0 where
   pub spends : Spends filling_cost 0 old new
   pub own : KeepsOwn old new
   pub turn : new.turn ≡ old.turn
+  pub nils : new.nils ≡ old.nils
   pub full : IsOutOfWords spends.words old new
   pub steps : OnlyFills old.made new.made
   pub unfilled : new.made.fills ≡ old.made.fills
@@ -135,6 +137,9 @@ pub record EnsuresFilled (head bucket : ℕ) (old new : PassView) : Type 0 where
   pub unspent : (old.spent ≡ None) ⊎ (spends.words ≡ 0)
   pub spent : new.spent ≡ old.spent
   pub steps : OnlyFills old.made new.made
+  -- without an exchange nothing was drawn
+  pub unfilled : new.made.fills ≡ old.made.fills
+      → (spends.words ≡ 0) × (new.hands ≡ old.hands)
   -- without one before, only sealed words were loaded
   pub first : generation.predecessor ≡ 0 → new.made
       ≡ record old.made { sealed_loads = new.made.sealed_loads }

@@ -53,6 +53,14 @@ pub record WasSpent (words : ℕ) (old new : PassView) : Type 0 where
 abbrev pub IsOutOfWords : ℕ → PassView → PassView → Type 0
 IsOutOfWords words old new = WasSpent words old new ⊎ Overdrew words old new
 
+-- behind so many words the pass drew so many more, which passed the end: it is spent, with the place
+-- that this draw found
+pub record OverdrewAfter (before last : ℕ) (old new : PassView) : Type 0 where
+  pub at : ℕ
+  pub spent : new.spent ≡ Some at
+  pub behind : old.facts.opened + (old.drawn + before) ≤ at
+  pub past : old.facts.cap < at + last
+
 -- No block for a row of these keys was to be had.
 pub record RefusesRow (keys : List ℕ) (old new : PassView) : Type 0 where
   pub only : OnlyDraws old new

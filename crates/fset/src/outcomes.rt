@@ -1,4 +1,6 @@
-// How a call on the set ends, and how one try of it does.
+// How a call on the set ends, and how one try of it and the seek of its key's row do.
+
+use crate::Sought;
 
 /// The answer of an insert or a remove.
 #[derive(Clone, Copy, Debug, PartialEq, Eq)]
@@ -27,8 +29,22 @@ pub enum Outcome {
 pub enum Turn {
     /// It was answered.
     Done(Answered),
-    /// Another pass exchanged the bucket's row meanwhile. The call has no entry, and may be tried again.
+    /// Another pass exchanged the bucket's row meanwhile, or had the bucket frozen, as it is one of a head
+    /// that was replaced. The call has no entry, and may be tried again.
     Lost,
     /// A draw of the pass passed the end of the arena, now or before. The call has no entry.
+    Full,
+}
+
+/// How the seek of a key's row in a turn ends.
+#[derive(Clone, Copy, Debug, PartialEq, Eq)]
+pub enum Seek {
+    /// It was found, and the turn is open.
+    Found(Sought),
+    /// The key's bucket was frozen when it was loaded, as it is one of a head that was replaced. The
+    /// turn is lost.
+    Frozen,
+    /// The key's bucket was nil, and a draw of the pass for a row to fill it with passed the end of the
+    /// arena, now or before.
     Full,
 }

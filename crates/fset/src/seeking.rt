@@ -1,10 +1,16 @@
 // Finding the bucket of a key and its row.
-ghost use Rattle.std.specs.Prelude.{◌≡◌};
+ghost use Rattle.std.specs.Prelude.{◌≡◌, IfOk, OnErr};
 ghost use Rattle.cells.specs.Tokens.{IsPassOf, IsSamePass};
-ghost use Rattle.fset.specs.Seeking.{KnowsGenerationAt, LoadsBucketOf, LoadsKeyBucket, Seeks};
+ghost use Rattle.fset.specs.Seeking.{
+  EndsSeek,
+  FindsNil,
+  KnowsGenerationAt,
+  LoadsBucketOf,
+  LoadsKeyBucket,
+};
 
-use crate::{Seen, read_row};
-use cells::{Pass, Round};
+use crate::{Seek, Seen, ensure, read_row};
+use cells::{Full, Pass, Round};
 use step_core::{FIRST_BUCKET, bucket_of, row_address};
 
 /// The bucket of a key, as a pass loaded it in its open turn, and its row.
@@ -18,43 +24,64 @@ pub struct Sought {
     pub row: Seen,
 }
 
-/// Finds the bucket of the key in the head and reads its row, by one load of the head and one of the
-/// bucket. The pass then has a turn open; of the key the row says what the set after the pass's new
-/// front says, which begins with its old one.
-pub fn seek(round: &Round, pass: &mut Pass, key: u64) -> Sought
+/// Opens a turn, finds the bucket of the key in the head and reads its row, by one load of the head and
+/// one of the bucket. Where it finds the bucket nil, it fills it and loads it again. Of the key the
+/// row says what the set after the pass's new front says, which begins with its old one.
+pub fn seek(round: &Round, pass: &mut Pass, key: u64) -> Seek
     requires pass { IsPassOf round.now pass.old }
     ensures pass { IsSamePass pass.old pass.new }
-    ensures answer { Seeks key pass.old.view result pass.new.view }
+    ensures answer { EndsSeek key result pass.old.view pass.new.view }
 {
-    let bucket = load_key_bucket(round, pass, key);
+    let Ok(bucket) = load_key_bucket(round, pass, key) else {
+        return Seek::Full;
+    };
     round.sound(pass);
+    if bucket.word % 2 == 1 {
+        return Seek::Frozen;
+    }
     let row = read_row(round, pass, row_address(bucket.word));
     round.sound(pass);
-    Sought {
+    Seek::Found(Sought {
         place: bucket.place,
         word: bucket.word,
         row,
-    }
+    })
 }
 
-// A bucket of the head, as a pass loaded it.
+// A bucket, as a pass loaded it.
 #[derive(Clone, Copy, Debug, PartialEq, Eq)]
 pub(crate) struct LoadedBucket {
+    // The bucket, from 0.
+    pub(crate) bucket: u64,
     // The place of its word.
     pub(crate) place: u64,
     // The word that was loaded there.
     pub(crate) word: u64,
 }
 
-// Opens a turn, and loads the bucket of the key in the head.
-fn load_key_bucket(round: &Round, pass: &mut Pass, key: u64) -> LoadedBucket
+// Opens a turn, and loads the bucket of the key in the head. Where it is nil, it is filled and loaded
+// again. It is Full only where no block for the row to fill it with was to be had.
+fn load_key_bucket(round: &Round, pass: &mut Pass, key: u64) -> Result<LoadedBucket, Full>
     requires pass { IsPassOf round.now pass.old }
     ensures pass { IsSamePass pass.old pass.new }
-    ensures answer { LoadsKeyBucket key pass.old.view result pass.new.view }
+    ensures answer { IfOk result (λ bucket. LoadsKeyBucket key pass.old.view bucket pass.new.view) }
+    ensures full { OnErr result (FindsNil key pass.old.view pass.new.view) }
 {
     let head = round.load_head(pass);
     round.sound(pass);
-    load_bucket_of(round, pass, head, key)
+    let bucket = load_bucket_of(round, pass, head, key);
+    round.sound(pass);
+    if bucket.word != 0 {
+        return Ok(bucket);
+    }
+    let Ok(()) = ensure(round, pass, head, bucket.bucket) else {
+        return Err(Full);
+    };
+    round.sound(pass);
+    // It isn't nil now: a filled bucket is never nil again.
+    let bucket = load_bucket_of(round, pass, head, key);
+    round.sound(pass);
+    Ok(bucket)
 }
 
 // Loads the bucket of the key in the generation at the address.
@@ -67,7 +94,12 @@ pub(crate) fn load_bucket_of(round: &Round, pass: &mut Pass, at: u64, key: u64) 
     round.sound(pass);
     let exponent = round.load_sealed(pass, at);
     round.sound(pass);
-    let place = at + FIRST_BUCKET + bucket_of(key, exponent as u32);
+    let bucket = bucket_of(key, exponent as u32);
+    let place = at + FIRST_BUCKET + bucket;
     let word = round.load_bucket(pass, place);
-    LoadedBucket { place, word }
+    LoadedBucket {
+        bucket,
+        place,
+        word,
+    }
 }

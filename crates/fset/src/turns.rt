@@ -6,7 +6,7 @@ ghost use Rattle.set_model.specs.declared.call.Call.TheVariants.{Contains};
 
 use crate::content::place_among;
 use crate::rows::build_at;
-use crate::{Answered, Turn, seek};
+use crate::{Answered, Seek, Turn, seek};
 use cells::{Pass, Round};
 use set_model::Call;
 use step_core::FIRST_KEY;
@@ -14,11 +14,13 @@ use step_core::FIRST_KEY;
 /// Tries an insert or a remove once. The pass must have begun a call that has no entry, and have no
 /// operation in flight.
 ///
-/// Where the call wouldn't change the set that the pass has seen when it loads the key's bucket, it
-/// is answered so. Else it takes effect by one exchange of the bucket, and has an entry in the
-/// history then. It is Lost only where that exchange was lost, to another pass, and Full only where
-/// the pass was spent, or a draw for its row passed the end; the call then has no entry. After an
-/// exchange no turn is open, and else the turn stays open.
+/// Where the key's bucket is nil it is filled first, as `ensure` does. Where the call wouldn't change
+/// the set that the pass has seen when it loads the bucket, it is answered so. Else it takes effect by
+/// one exchange of the bucket, and has an entry in the history then. It is Lost only to another pass:
+/// where that exchange was lost, or the bucket was frozen when it was loaded, so that none was made;
+/// and Full only where the pass was spent, or a draw for its row or for one to fill the bucket with
+/// passed the end. The call then has no entry. Where an exchange was made or the bucket was frozen no
+/// turn is open, and else the turn stays open.
 ///
 /// After Liu, Zhang and Spear, Dynamic-sized nonblocking hash tables (PODC 2014).
 pub fn turn(round: &Round, pass: &mut Pass, call: Call, key: u64) -> Turn
@@ -30,6 +32,12 @@ pub fn turn(round: &Round, pass: &mut Pass, call: Call, key: u64) -> Turn
     ensures steps { AreOneTurn pass.old.view.made pass.new.view.made }
 {
     let sought = seek(round, pass, key);
+    round.sound(pass);
+    let sought = match sought {
+        Seek::Found(sought) => sought,
+        Seek::Frozen => return Turn::Lost,
+        Seek::Full => return Turn::Full,
+    };
     let place = place_among(round, pass, &sought.row, key);
     round.sound(pass);
     if !call.answer(place.taken) {

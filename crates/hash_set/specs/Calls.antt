@@ -1,5 +1,5 @@
 -- How the calls on the set end.
-use Rattle.std.specs.Prelude.{◌≡◌, ◌≢◌, ℕ, ◌+◌, ◌<◌, ◌≤◌, ◌⊎◌, false, List, ◌∷◌, None, Some}
+use Rattle.std.specs.Prelude.{◌≡◌, ◌≢◌, ℕ, ◌+◌, ◌*◌, ◌<◌, ◌≤◌, ◌⊎◌, false, List, ◌∷◌, length, None}
 use mathlib.Core.List.{IsPrefix}
 use Rattle.set_model.specs.declared.call.Call.{Call}
 use Rattle.step_core.specs.declared.views.HeadLoad.{HeadLoad}
@@ -10,10 +10,10 @@ use Rattle.cells.specs.Tokens.{PassValue}
 use Rattle.fset.specs.declared.outcomes.Answered.{Answered}
 use Rattle.fset.specs.declared.outcomes.Outcome.{Outcome}
 use Rattle.fset.specs.declared.outcomes.Outcome.TheVariants.{Done, Busy, Full}
-use Rattle.fset.specs.Frames.{Grows, KeepsOwn, Spends, turns_cost, widest}
-use Rattle.fset.specs.Rows.{WasSpent}
+use Rattle.fset.specs.Frames.{Grows, KeepsOwn, Spends, row_cost, turns_cost, widest}
+use Rattle.fset.specs.Rows.{OverdrewAfter, WasSpent}
 use Rattle.fset.specs.Standing.{AnswerStands, TriedStands}
-use Rattle.fset.specs.Turns.{IsWidth, WouldChange}
+use Rattle.fset.specs.Turns.{IsWidth, LosesTurn, RefusesTurn}
 
 -- it is the same pass of the same round, and has begun one call more
 pub record BeginsCall (old new : PassValue) : Type 0 where
@@ -46,13 +46,18 @@ pub record OnlyLooks (old new : PassView) : Type 0 where
     bucket_loads = old.made.bucket_loads + buckets;
   }
 
--- the steps of so many turns: for each one load of the head and one of a bucket, and at most one draw
--- and one exchange
+-- the steps of so many turns: for each one load of the head, one of a bucket or two, at most two draws
+-- and one exchange, and to fill a bucket at most two freezes and one exchange
 pub record AreTurns (turns : ℕ) (before after : StepCounts) : Type 0 where
   pub heads : after.head_loads ≡ before.head_loads + turns
-  pub buckets : after.bucket_loads ≡ before.bucket_loads + turns
-  pub draws : after.draws ≤ before.draws + turns
+  pub some_buckets : before.bucket_loads + turns ≤ after.bucket_loads
+  pub buckets : after.bucket_loads ≤ before.bucket_loads + 2 * turns
+  pub draws : after.draws ≤ before.draws + 2 * turns
   pub swaps : after.row_swaps ≤ before.row_swaps + turns
+  pub no_fewer : before.fills ≤ after.fills
+  pub fills : after.fills ≤ before.fills + turns
+  pub freezes : after.freezes ≤ before.freezes + 2 * turns
+  pub head_swaps : after.head_swaps ≡ before.head_swaps
   pub notes : after.notes ≡ before.notes
   pub learned : after.learned ≡ before.learned
 
@@ -64,7 +69,7 @@ pub record Tries (turns losses : ℕ) (old new : PassView) : Type 0 where
   pub others : losses ≢ 0 → old.facts.seats ≢ 1
 
 -- It was answered, in the turn after those that were lost. Where it changed nothing, that turn drew
--- nothing.
+-- only to fill its bucket.
 pub record AnswersCall (fast serial : ℕ) (call : Call) (key : ℕ) (answered : Answered)
     (old new : PassView) : Type 0 where
   pub losses : ℕ
@@ -75,34 +80,38 @@ pub record AnswersCall (fast serial : ℕ) (call : Call) (key : ℕ) (answered :
   pub tried : TriedStands serial call key answered.changed old new
   pub width : IsWidth call key answered.width tries.spends.learned new
   pub spent : new.spent ≡ old.spent
-  pub reads : answered.changed ≡ false
-      → tries.spends.words ≤ turns_cost losses (widest tries.spends.learned)
+  pub reads : answered.changed ≡ false → tries.spends.words
+      ≤ turns_cost losses (length tries.spends.wide) + row_cost (length tries.spends.wide)
+  pub unfilled : answered.changed ≡ false → new.made.fills ≡ old.made.fills
+      → tries.spends.words ≤ turns_cost losses (length tries.spends.wide)
+
+-- so many turns were lost, the last of them as a turn is
+pub record LosesLast (turns : ℕ) (call : Call) (key : ℕ) (old new : PassView) : Type 0 where
+  pub before : ℕ
+  pub count : turns ≡ before + 1
+  pub start : PassView
+  pub earlier : Tries before before old start
+  pub turn : LosesTurn call key start new
 
 -- all its turns were lost, to other passes
 pub record LosesCall (fast : ℕ) (call : Call) (key : ℕ) (old new : PassView) : Type 0 where
   pub tries : Tries fast fast old new
   pub own : KeepsOwn old new
-  pub unspent : old.spent ≡ None
+  pub last : LosesLast fast call key old new
+  pub unspent : (old.spent ≡ None) ⊎ (tries.spends.words ≡ 0)
   pub spent : new.spent ≡ old.spent
-  pub wanted : WouldChange call key new
   pub others : old.facts.seats ≢ 1
 
--- behind so many words the pass drew so many more, which passed the end: it is spent, with the place
--- that this draw found
-pub record OverdrewAfter (before last : ℕ) (old new : PassView) : Type 0 where
-  pub at : ℕ
-  pub spent : new.spent ≡ Some at
-  pub behind : old.facts.opened + (old.drawn + before) ≤ at
-  pub past : old.facts.cap < at + last
-
--- A block that it needed wasn't to be had: the pass was spent before, and the call drew nothing; or its
--- last draw passed the end.
+-- A block that it needed in its last turn wasn't to be had: the pass was spent before, and the call
+-- drew nothing; or its last draw passed the end.
 pub record RefusesCall (fast : ℕ) (call : Call) (key : ℕ) (old new : PassView) : Type 0 where
   pub losses : ℕ
   pub few : losses < fast
   pub tries : Tries (losses + 1) losses old new
   pub own : KeepsOwn old new
-  pub wanted : WouldChange call key new
+  pub start : PassView
+  pub earlier : Tries losses losses old start
+  pub turn : RefusesTurn call key start new
   pub before : ℕ
   pub last : ℕ
   pub words : tries.spends.words ≡ before + last

@@ -1,11 +1,10 @@
 -- A bucket that was frozen, and its row read, is known to be closed, also while more becomes known.
-use Rattle.std.proofs.Common.{◌≡◌, ◌≢◌, ℕ, ◌+◌, ◌^◌, ◌<◌, ◌&&◌, ◌||◌, Bool, true, nat_eq, cond, List, [], ◌∷◌, ◌++◌, inl, refl, sym, ap, ◌∙◌, subst, eq-eqb, ne_eqb, add-zero, arith}
+use Rattle.std.proofs.Common.{◌≡◌, ◌≢◌, ℕ, ◌+◌, ◌^◌, ◌<◌, ◌&&◌, ◌||◌, Bool, true, nat_eq, cond, List, [], ◌∷◌, ◌++◌, inl, refl, sym, ap, ◌∙◌, subst, eq-eqb, ne_eqb, add-zero}
 use base.Growing.{prefix_refl}
 use Rattle.step_core.specs.Fits.{HoldsClass}
 use Rattle.step_core.specs.Format.{IsFrozen, row_address, frozen_word}
 use Rattle.step_core.specs.declared.format.TheConstants.{FIRST_BUCKET}
 use Rattle.step_core.specs.declared.published.Published.TheVariants.{Row}
-use Rattle.step_core.specs.declared.published.GenerationBlock.{GenerationBlock}
 use Rattle.step_core.specs.declared.published.RowBlock.{RowBlock}
 use Rattle.step_core.specs.declared.views.FilledBucket.{FilledBucket}
 use Rattle.step_core.specs.declared.views.FixedCell.{FixedCell}
@@ -17,7 +16,7 @@ use Rattle.cells.specs.Exchanges.{content_keys, fixed_at, named_row}
 use Rattle.cells.specs.Filling.{KnowsClosed, source_row}
 use Rattle.cells.specs.Frames.{OnlyReads}
 use Rattle.cells.specs.Freezing.{FreezesBucket, MayFreeze}
-use Rattle.cells.specs.Known.{known_block, row_at, IsBucketWord, KnowsRow}
+use Rattle.cells.specs.Known.{known_block, row_at, KnowsRow}
 use Rattle.cells.specs.Lone.{is_among}
 use Rattle.cells.specs.Sound.{IsSound}
 use Rattle.cells.proofs.laws.Known.{generation_at-known, keys_at-known, knows_first, knows_more, row_at-first, row_at-known}

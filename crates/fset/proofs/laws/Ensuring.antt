@@ -1,7 +1,6 @@
 -- A bucket for which a row was built is filled by the exchange, won or lost; one of a generation without one before isn't nil.
 use Rattle.std.proofs.lemmas.List.{append-nil}
-use Rattle.std.proofs.Common.{◌≡◌, ◌≢◌, ℕ, ◌+◌, ◌^◌, ◌<◌, ◌≤◌, ◌⊎◌, true, List, [], ◌∷◌, ◌++◌, Result, Ok, Err, OnOk, IfErr, inl, inr, ⊎_elim, refl, sym, ap, ◌∙◌, subst, add-zero, arith}
-use mathlib.Core.List.{IsPrefix}
+use Rattle.std.proofs.Common.{◌≡◌, ◌≢◌, ℕ, ◌+◌, ◌≤◌, List, [], ◌∷◌, ◌++◌, Result, Ok, Err, OnOk, IfErr, inl, inr, refl, sym, ap, ◌∙◌, subst, add-zero, arith}
 use base.Growing.{prefix_refl}
 use Rattle.step_core.specs.Limits.{max_exponent}
 use Rattle.step_core.specs.declared.format.TheConstants.{FIRST_BUCKET}
@@ -10,7 +9,6 @@ use Rattle.step_core.specs.declared.published.GenerationBlock.{GenerationBlock}
 use Rattle.step_core.specs.declared.views.FilledBucket.{FilledBucket}
 use Rattle.step_core.specs.declared.views.Known.{Known}
 use Rattle.step_core.specs.declared.views.PassView.{PassView}
-use Rattle.step_core.specs.declared.views.RoundFacts.{RoundFacts}
 use Rattle.step_core.specs.declared.views.StepCounts.{StepCounts}
 use Rattle.cells.specs.Filling.{FillsBucket, LosesFill, filling_row}
 use Rattle.cells.specs.Frames.{after_reads}
@@ -21,12 +19,11 @@ use Rattle.cells.specs.Steps.{LoadsSealed, filled_bucket}
 use Rattle.cells.specs.Tokens.{BlockValue}
 use Rattle.cells.proofs.laws.Known.{bucket_word_stays, generation_at-known, knows_more}
 use Rattle.cells.proofs.laws.Sealed.{knows_exponent, knows_predecessor}
-use Rattle.fset.specs.Ensuring.{BuildsFilling, EnsuresFilled, IsFilling, OnlyFillSteps, OnlyFills, RefusesFilling}
-use Rattle.fset.specs.Frames.{Grows, KeepsOwn, Spends, filling_cost, row_cost}
-use Rattle.fset.specs.Rows.{IsOutOfWords, Overdrew, WasSpent}
+use Rattle.fset.specs.Ensuring.{BuildsFilling, EnsuresFilled, IsFilling, OnlyFillSteps, RefusesFilling}
+use Rattle.fset.specs.Frames.{Grows, KeepsOwn, filling_cost, row_cost}
 use Rattle.fset.specs.declared.ensuring.Filling.{Filling}
 use Rattle.fset.proofs.laws.Closing.{is_among-first}
-use Rattle.fset.proofs.laws.Filling.{fill_steps_then}
+use Rattle.fset.proofs.laws.Filling.{fill_steps_then, refused_from}
 use Rattle.fset.proofs.laws.Frames.{behind_self, grows_then, keys_of-none, own_then, reads_grow, reads_own, spends_after, spends_before}
 use Rattle.fset.proofs.laws.Looking.{exponent_is, exponent_still, still_known}
 use Rattle.fset.proofs.laws.Naming.{named_is, names_grow, names_own, names_predecessor}
@@ -120,10 +117,11 @@ module _ (head bucket : ℕ) (v0 : PassView) (generation : GenerationBlock)
   named_made = ap (λ (view : PassView). view.made) second.view
       ∙ ap (λ (view : PassView). record view.made { sealed_loads = view.made.sealed_loads + 1 }) still
 
-  named_same : (v2.turn ≡ v0.turn) × (v2.spent ≡ v0.spent)
+  named_same : (v2.turn ≡ v0.turn) × (v2.spent ≡ v0.spent) × (v2.nils ≡ v0.nils)
   named_same = (
     ap (λ (view : PassView). view.turn) second.view ∙ ap (λ (view : PassView). view.turn) still,
     ap (λ (view : PassView). view.spent) second.view ∙ ap (λ (view : PassView). view.spent) still,
+    ap (λ (view : PassView). view.nils) second.view ∙ ap (λ (view : PassView). view.nils) still,
   )
 
   -- A bucket of a generation without one before isn't nil.
@@ -147,9 +145,12 @@ module _ (head bucket : ℕ) (v0 : PassView) (generation : GenerationBlock)
     steps = record {
       only = subst (OnlyFillSteps v0.made) (sym named_made) refl;
       draws = omega (arith, ap (λ (made : StepCounts). made.draws) named_made);
+      no_fewer = omega (arith, ap (λ (made : StepCounts). made.fills) named_made);
       fills = omega (arith, ap (λ (made : StepCounts). made.fills) named_made);
       freezes = omega (arith, ap (λ (made : StepCounts). made.freezes) named_made);
     };
+    unfilled = λ same.
+        (refl, ap (λ (view : PassView). view.hands) second.view ∙ ap (λ (view : PassView). view.hands) still);
     first = λ zero. subst (λ (made : StepCounts). made ≡ record v0.made { sealed_loads = made.sealed_loads }) (sym named_made) refl;
   }
 
@@ -172,10 +173,16 @@ module _ (head bucket : ℕ) (v0 : PassView) (generation : GenerationBlock)
     -- The exponents fit, as the generations lie in the arena.
     pub exponents_fit : IsSound v3 → (exponent ≤ max_exponent) × (before ≤ max_exponent)
     exponents_fit sound = (
-      omega (arith, exponent_is v0 v1 head exponent generation is_word.known first,
-      sound.generations head generation (knows_more second.learned v0 v3 more_known head (Generation generation) is_word.known)),
-      omega (arith, exponent_is v2 v3 predecessor before source source_known third,
-      sound.generations predecessor source (still_known v2 v3 predecessor before source source_known third)),
+      omega (
+        arith,
+        exponent_is v0 v1 head exponent generation is_word.known first,
+        sound.generations head generation (knows_more second.learned v0 v3 more_known head (Generation generation) is_word.known),
+      ),
+      omega (
+        arith,
+        exponent_is v2 v3 predecessor before source source_known third,
+        sound.generations predecessor source (still_known v2 v3 predecessor before source source_known third),
+      ),
     )
 
     -- Two generations that follow each other are known.
@@ -200,10 +207,11 @@ module _ (head bucket : ℕ) (v0 : PassView) (generation : GenerationBlock)
     read_made = ap (λ (view : PassView). view.made) still_then
         ∙ ap (λ (made : StepCounts). record made { sealed_loads = made.sealed_loads + 1 }) named_made
 
-    read_same : (v3.turn ≡ v0.turn) × (v3.spent ≡ v0.spent)
+    read_same : (v3.turn ≡ v0.turn) × (v3.spent ≡ v0.spent) × (v3.nils ≡ v0.nils)
     read_same = (
       ap (λ (view : PassView). view.turn) still_then ∙ named_same.0,
       ap (λ (view : PassView). view.spent) still_then ∙ named_same.1,
+      ap (λ (view : PassView). view.nils) still_then ∙ named_same.2,
     )
 
     read_steps : OnlyFillSteps v0.made v3.made
@@ -215,25 +223,12 @@ module _ (head bucket : ℕ) (v0 : PassView) (generation : GenerationBlock)
       spends = spends_after filling_cost 0 second.learned v0 v3 v4 read_grown refuses.spends;
       own = own_then v0 v3 v4 read_own refuses.own;
       turn = refuses.turn ∙ read_same.0;
-      full = ⊎_elim
-          (λ (was : WasSpent refuses.spends.words v3 v4).
-          let out : IsOutOfWords refuses.spends.words v0 v4 = inl (record {
-            before = λ unspent. was.before (read_same.1 ∙ unspent);
-            still = was.still ∙ read_same.1;
-            none = was.none;
-          }) in out)
-          (λ (past : Overdrew refuses.spends.words v3 v4).
-          let out : IsOutOfWords refuses.spends.words v0 v4 = inr (record {
-            at = past.at;
-            spent = past.spent;
-            behind = let behind = past.behind in
-                omega (arith, behind, ap (λ (facts : RoundFacts). facts.opened) read_grown.facts, read_grown.drawn);
-            past = let end = past.past in omega (arith, end, ap (λ (facts : RoundFacts). facts.cap) read_grown.facts);
-          }) in out)
-          refuses.full;
+      nils = refuses.nils ∙ read_same.2;
+      full = refused_from refuses.spends.words second.learned 0 v0 v3 v4 read_grown read_same.1 refuses.full;
       steps = record {
         only = fill_steps_then v0.made v3.made v4.made read_steps refuses.steps.only;
         draws = omega (arith, refuses.steps.draws, ap (λ (made : StepCounts). made.draws) read_made);
+        no_fewer = omega (arith, refuses.steps.no_fewer, ap (λ (made : StepCounts). made.fills) read_made);
         fills = omega (arith, refuses.steps.fills, ap (λ (made : StepCounts). made.fills) read_made);
         freezes = omega (arith, refuses.steps.freezes, ap (λ (made : StepCounts). made.freezes) read_made);
       };
@@ -261,12 +256,37 @@ module _ (head bucket : ℕ) (v0 : PassView) (generation : GenerationBlock)
           steps = record {
             only = fill_steps_then v0.made v4.made v5.made (fill_steps_then v0.made v3.made v4.made read_steps builds.steps.only)
                 (subst (OnlyFillSteps v4.made) (sym ends.made) refl);
-            draws = omega (arith, builds.steps.draws, ap (λ (made : StepCounts). made.draws) read_made,
-                ap (λ (made : StepCounts). made.draws) ends.made);
-            fills = omega (arith, builds.unfilled, ap (λ (made : StepCounts). made.fills) read_made,
-                ap (λ (made : StepCounts). made.fills) ends.made);
-            freezes = omega (arith, builds.steps.freezes, ap (λ (made : StepCounts). made.freezes) read_made,
-                ap (λ (made : StepCounts). made.freezes) ends.made);
+            draws = omega (
+              arith,
+              builds.steps.draws,
+              ap (λ (made : StepCounts). made.draws) read_made,
+              ap (λ (made : StepCounts). made.draws) ends.made,
+            );
+            no_fewer = omega (
+              arith,
+              builds.unfilled,
+              ap (λ (made : StepCounts). made.fills) read_made,
+              ap (λ (made : StepCounts). made.fills) ends.made,
+            );
+            fills = omega (
+              arith,
+              builds.unfilled,
+              ap (λ (made : StepCounts). made.fills) read_made,
+              ap (λ (made : StepCounts). made.fills) ends.made,
+            );
+            freezes = omega (
+              arith,
+              builds.steps.freezes,
+              ap (λ (made : StepCounts). made.freezes) read_made,
+              ap (λ (made : StepCounts). made.freezes) ends.made,
+            );
           };
+          unfilled = λ same. absurd (omega (
+            arith,
+            same,
+            builds.unfilled,
+            ap (λ (made : StepCounts). made.fills) read_made,
+            ap (λ (made : StepCounts). made.fills) ends.made,
+          ));
           first = λ none. absurd (some (named_is head generation v1 predecessor v2 known_one second ∙ none));
         }

@@ -1,46 +1,30 @@
 -- After a growth the row that was built of the one source's keys may fill the bucket; and what was drawn for it is bounded by its width.
-use Rattle.std.proofs.Common.{◌≡◌, ◌≢◌, ℕ, ◌+◌, ◌*◌, ◌%◌, ◌^◌, ◌<◌, ◌≤◌, ◌⊎◌, true, List, [], ◌∷◌, ◌++◌, length, All, None, Contains, inl, inr, ⊎_elim, refl, sym, ap, ◌∙◌, subst, arith}
+use Rattle.std.proofs.Common.{◌≡◌, ℕ, ◌+◌, ◌%◌, ◌^◌, List, [], ◌∷◌, length, All, refl, sym, ap, ◌∙◌, subst, arith}
 use Rattle.std.specs.List.Sorted.{IsStrictlyIncreasing}
 use Rattle.set_model.specs.Keys.{is_in}
 use Rattle.step_core.specs.Buckets.{class_keys}
-use Rattle.arena.specs.Hands.{words_at}
 use Rattle.step_core.specs.Content.{bucket_of, spot_of, InClass}
-use Rattle.step_core.specs.Fits.{HoldsClass}
-use Rattle.step_core.specs.Format.{row_words}
-use Rattle.step_core.specs.Limits.{max_exponent}
-use Rattle.step_core.specs.declared.format.TheConstants.{FIRST_BUCKET}
-use Rattle.step_core.specs.declared.published.Published.TheVariants.{Generation, Row}
-use Rattle.step_core.specs.declared.published.GenerationBlock.{GenerationBlock}
-use Rattle.step_core.specs.declared.published.RowBlock.{RowBlock}
+use Rattle.step_core.specs.declared.published.Published.TheVariants.{Row}
 use Rattle.step_core.specs.declared.views.FixedCell.{FixedCell}
-use Rattle.step_core.specs.declared.views.FilledBucket.{FilledBucket}
 use Rattle.step_core.specs.declared.views.Known.{Known}
-use Rattle.step_core.specs.declared.views.OpenTurn.{OpenTurn}
 use Rattle.step_core.specs.declared.views.PassView.{PassView}
 use Rattle.step_core.specs.declared.views.StepCounts.{StepCounts}
 use Rattle.cells.specs.Exchanges.{content_keys, fixed_at}
-use Rattle.cells.specs.Filling.{KnowsClosed, MayFill, source_row}
-use Rattle.cells.specs.Frames.{OnlyDraws}
-use Rattle.cells.specs.Known.{known_block, IsBucketWord, KnowsGeneration}
+use Rattle.cells.specs.Filling.{KnowsClosed, source_row}
+use Rattle.cells.specs.Known.{known_block}
 use Rattle.cells.specs.Sound.{IsSound}
 use Rattle.cells.specs.Tokens.{BlockValue}
-use Rattle.cells.proofs.laws.Known.{bucket_word_stays, knows_more}
-use Rattle.fset.specs.Content.{seen_keys}
-use Rattle.fset.specs.Ensuring.{BuildsFilling, ClosesBucket, IsFilling, IsSource, OnlyCloses, OnlyFillSteps, OnlyFills, RefusesFilling, cell_of}
-use Rattle.fset.specs.Frames.{AreKeysOf, Grows, IsKeyOf, KeepsOwn, Spends, filling_cost, row_cost}
-use Rattle.fset.specs.Joining.{joined, joined_keys}
-use Rattle.fset.specs.Rows.{Builds, IsOutOfWords, OnlyBuilds, Overdrew, RefusesRow, WasSpent}
-use Rattle.fset.specs.Seen.{IsSeen}
+use Rattle.fset.specs.Ensuring.{BuildsFilling, ClosesBucket, IsFilling, OnlyFillSteps, OnlyFills, RefusesFilling}
+use Rattle.fset.specs.Frames.{row_cost}
+use Rattle.fset.specs.Rows.{Builds, OnlyBuilds, RefusesRow}
 use Rattle.fset.specs.Splitting.{split_keys}
 use Rattle.fset.specs.declared.ensuring.Filling.{Filling}
 use Rattle.fset.specs.declared.seen.Seen.{Seen}
-use Rattle.fset.proofs.laws.Closing.{closed_content, closed_holds, closed_keys, closes_own, closes_then, fixed_at-here, fixed_at-other, knows_closed}
-use Rattle.fset.proofs.laws.Frames.{draws_grow, draws_own, grows_then, keys_of-either, keys_of-row, longer, own_then}
-use Rattle.fset.proofs.laws.Joining.{joined-rises, length-joined}
-use Rattle.fset.proofs.laws.Reading.{seen_stays}
-use Rattle.fset.proofs.laws.Sources.{joined_class, joined_from, joined_high, joined_low, join_source, other_source, sources_within, split_class, split_fewer, split_from, split_has, split_source}
+use Rattle.fset.proofs.laws.Closing.{closed_content, closed_holds, closed_keys, fixed_at-here, knows_closed}
+use Rattle.fset.proofs.laws.Frames.{keys_of-row}
+use Rattle.fset.proofs.laws.Sources.{split_class, split_fewer, split_from, split_has, split_source}
 use Rattle.fset.proofs.laws.Splitting.{split-rises}
-use Rattle.fset.proofs.laws.Filling.{built_grown, built_own, built_steps, built_turn, fill_steps_then, filling_within, may_fill, refused_from, source_word}
+use Rattle.fset.proofs.laws.Filling.{built_grown, built_own, built_steps, built_turn, may_fill, refused_from}
 
 module _ (filling : Filling) (v0 : PassView) (f : IsFilling v0 filling) (sound : IsSound v0) where
   module _ (one : filling.exponent ≡ filling.before + 1) (seen : Seen) (v1 v2 : PassView)
@@ -105,8 +89,12 @@ module _ (filling : Filling) (v0 : PassView) (f : IsFilling v0 filling) (sound :
           wide = split;
           keys = record {
             rising = subst IsStrictlyIncreasing (sym split_is) (split-rises filling.exponent filling.bucket closes.row.keys row_rises);
-            from = λ key here. (seen.at, closes.row, (0, omega arith, refl),
-                split_from filling.exponent filling.bucket closes.row.keys key (sym (ap (λ (list : List ℕ). is_in list key) split_is) ∙ here));
+            from = λ key here. (
+              seen.at,
+              closes.row,
+              (0, omega arith, refl),
+              split_from filling.exponent filling.bucket closes.row.keys key (sym (ap (λ (list : List ℕ). is_in list key) split_is) ∙ here),
+            );
           };
           bound = builds.bound;
         };
@@ -128,12 +116,17 @@ module _ (filling : Filling) (v0 : PassView) (f : IsFilling v0 filling) (sound :
         grows = built_grown v0 v1 v2 read closes.grows closes.only refuses.only refuses.words refuses.drawn;
         wide = closes.row.keys;
         keys = keys_of-row read seen.at closes.row (0, omega arith, refl) row_rises;
-        bound = omega (arith, refuses.bound, ap (λ (list : List ℕ). length list) split_is,
-            split_fewer filling.exponent filling.bucket closes.row.keys);
+        bound = omega (
+          arith,
+          refuses.bound,
+          ap (λ (list : List ℕ). length list) split_is,
+          split_fewer filling.exponent filling.bucket closes.row.keys,
+        );
       };
       own = built_own v0 v1 v2 read closes.grows closes.only refuses.only;
       turn = (built_turn v0 v1 v2 read closes.grows closes.only refuses.only).0;
-      full = refused_from v0 v1 v2 read closes.grows closes.only refuses.words refuses.full;
+      nils = ap (λ (view : PassView). view.nils) refuses.only ∙ ap (λ (view : PassView). view.nils) closes.only;
+      full = refused_from refuses.words read 0 v0 v1 v2 closes.grows (ap (λ (view : PassView). view.spent) closes.only) refuses.full;
       steps = split_steps 0 refuses.steps;
       unfilled = ap (λ (made : StepCounts). made.fills) refuses.steps.only ∙ ap (λ (made : StepCounts). made.fills) closes.made;
     }

@@ -1,45 +1,31 @@
 -- After a shrink the row that was built of both sources' keys may fill the bucket; and what was drawn for it is bounded by its width.
-use Rattle.std.proofs.Common.{◌≡◌, ◌≢◌, ℕ, ◌+◌, ◌*◌, ◌%◌, ◌^◌, ◌<◌, ◌≤◌, ◌⊎◌, true, List, [], ◌∷◌, ◌++◌, length, All, None, Contains, inl, inr, ⊎_elim, refl, sym, ap, ◌∙◌, subst, arith}
+use Rattle.std.proofs.Common.{◌≡◌, ℕ, ◌+◌, ◌^◌, ◌<◌, true, List, [], ◌∷◌, ◌++◌, length, All, ⊎_elim, refl, sym, ap, ◌∙◌, subst, arith}
 use Rattle.std.specs.List.Sorted.{IsStrictlyIncreasing}
 use Rattle.set_model.specs.Keys.{is_in}
-use Rattle.step_core.specs.Buckets.{class_keys}
-use Rattle.arena.specs.Hands.{words_at}
 use Rattle.step_core.specs.Content.{bucket_of, spot_of, InClass}
 use Rattle.step_core.specs.Fits.{HoldsClass}
-use Rattle.step_core.specs.Format.{row_words}
-use Rattle.step_core.specs.Limits.{max_exponent}
-use Rattle.step_core.specs.declared.format.TheConstants.{FIRST_BUCKET}
-use Rattle.step_core.specs.declared.published.Published.TheVariants.{Generation, Row}
-use Rattle.step_core.specs.declared.published.GenerationBlock.{GenerationBlock}
-use Rattle.step_core.specs.declared.published.RowBlock.{RowBlock}
+use Rattle.step_core.specs.declared.published.Published.TheVariants.{Row}
 use Rattle.step_core.specs.declared.views.FixedCell.{FixedCell}
-use Rattle.step_core.specs.declared.views.FilledBucket.{FilledBucket}
 use Rattle.step_core.specs.declared.views.Known.{Known}
-use Rattle.step_core.specs.declared.views.OpenTurn.{OpenTurn}
 use Rattle.step_core.specs.declared.views.PassView.{PassView}
 use Rattle.step_core.specs.declared.views.StepCounts.{StepCounts}
 use Rattle.cells.specs.Exchanges.{content_keys, fixed_at}
-use Rattle.cells.specs.Filling.{KnowsClosed, MayFill, source_row}
-use Rattle.cells.specs.Frames.{OnlyDraws}
-use Rattle.cells.specs.Known.{known_block, IsBucketWord, KnowsGeneration}
+use Rattle.cells.specs.Filling.{KnowsClosed, source_row}
+use Rattle.cells.specs.Known.{known_block}
 use Rattle.cells.specs.Sound.{IsSound}
 use Rattle.cells.specs.Tokens.{BlockValue}
-use Rattle.cells.proofs.laws.Known.{bucket_word_stays, knows_more}
-use Rattle.fset.specs.Content.{seen_keys}
-use Rattle.fset.specs.Ensuring.{BuildsFilling, ClosesBucket, IsFilling, IsSource, OnlyCloses, OnlyFillSteps, OnlyFills, RefusesFilling, cell_of}
-use Rattle.fset.specs.Frames.{AreKeysOf, Grows, IsKeyOf, KeepsOwn, Spends, filling_cost, row_cost}
+use Rattle.fset.specs.Ensuring.{BuildsFilling, ClosesBucket, IsFilling, OnlyCloses, OnlyFillSteps, OnlyFills, RefusesFilling, cell_of}
+use Rattle.fset.specs.Frames.{AreKeysOf, Grows, IsKeyOf, row_cost}
 use Rattle.fset.specs.Joining.{joined, joined_keys}
-use Rattle.fset.specs.Rows.{Builds, IsOutOfWords, OnlyBuilds, Overdrew, RefusesRow, WasSpent}
+use Rattle.fset.specs.Rows.{Builds, OnlyBuilds, RefusesRow}
 use Rattle.fset.specs.Seen.{IsSeen}
-use Rattle.fset.specs.Splitting.{split_keys}
 use Rattle.fset.specs.declared.ensuring.Filling.{Filling}
 use Rattle.fset.specs.declared.seen.Seen.{Seen}
-use Rattle.fset.proofs.laws.Closing.{closed_content, closed_holds, closed_keys, closes_own, closes_then, fixed_at-here, fixed_at-other, knows_closed}
-use Rattle.fset.proofs.laws.Frames.{draws_grow, draws_own, grows_then, keys_of-either, keys_of-row, longer, own_then}
+use Rattle.fset.proofs.laws.Closing.{closed_content, closed_holds, closed_keys, closes_then, fixed_at-here, fixed_at-other, knows_closed}
+use Rattle.fset.proofs.laws.Frames.{grows_then, keys_of-either, keys_of-row, longer}
 use Rattle.fset.proofs.laws.Joining.{joined-rises, length-joined}
 use Rattle.fset.proofs.laws.Reading.{seen_stays}
-use Rattle.fset.proofs.laws.Sources.{joined_class, joined_from, joined_high, joined_low, join_source, other_source, sources_within, split_class, split_fewer, split_from, split_has, split_source}
-use Rattle.fset.proofs.laws.Splitting.{split-rises}
+use Rattle.fset.proofs.laws.Sources.{joined_class, joined_from, joined_high, joined_low, join_source, other_source, sources_within}
 use Rattle.fset.proofs.laws.Filling.{built_grown, built_own, built_steps, built_turn, fill_steps_then, filling_within, may_fill, refused_from, source_word}
 
 module _ (filling : Filling) (v0 : PassView) (f : IsFilling v0 filling) (sound : IsSound v0) where
@@ -215,12 +201,19 @@ module _ (filling : Filling) (v0 : PassView) (f : IsFilling v0 filling) (sound :
             keys = keys_of-either one_read other_read first.row.keys second.row.keys widest.0
                 (keys_of-row one_read low.at first.row (0, omega arith, refl) low_holds.rising)
                 (keys_of-row other_read high.at second.row (0, omega arith, refl) high_holds.rising) widest.1.which;
-            bound = omega (arith, refuses.bound, ap (λ (list : List ℕ). length list) joint_is, length-joined first.row.keys second.row.keys,
-                widest.1.first, widest.1.second);
+            bound = omega (
+              arith,
+              refuses.bound,
+              ap (λ (list : List ℕ). length list) joint_is,
+              length-joined first.row.keys second.row.keys,
+              widest.1.first,
+              widest.1.second,
+            );
           };
           own = built_own v0 v2 v3 both_read closed_grown closed refuses.only;
           turn = (built_turn v0 v2 v3 both_read closed_grown closed refuses.only).0;
-          full = refused_from v0 v2 v3 both_read closed_grown closed refuses.words refuses.full;
+          nils = ap (λ (view : PassView). view.nils) refuses.only ∙ ap (λ (view : PassView). view.nils) closed;
+          full = refused_from refuses.words both_read 0 v0 v2 v3 closed_grown (ap (λ (view : PassView). view.spent) closed) refuses.full;
           steps = joint_steps v3 0 refuses.steps;
           unfilled = ap (λ (made : StepCounts). made.fills) refuses.steps.only
               ∙ ap (λ (made : StepCounts). made.fills) second.made ∙ ap (λ (made : StepCounts). made.fills) first.made;

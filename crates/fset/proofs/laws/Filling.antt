@@ -1,45 +1,30 @@
 -- When a row may fill a bucket, and what building one leaves once the bucket's sources are closed.
-use Rattle.std.proofs.Common.{◌≡◌, ◌≢◌, ℕ, ◌+◌, ◌*◌, ◌%◌, ◌^◌, ◌<◌, ◌≤◌, ◌⊎◌, true, List, [], ◌∷◌, ◌++◌, length, All, None, Contains, inl, inr, ⊎_elim, refl, sym, ap, ◌∙◌, subst, arith}
+use Rattle.std.proofs.Common.{◌≡◌, ℕ, ◌+◌, ◌^◌, ◌<◌, ◌≤◌, ◌⊎◌, List, [], ◌++◌, All, inl, inr, ⊎_elim, refl, sym, ap, ◌∙◌, subst, arith}
 use Rattle.std.specs.List.Sorted.{IsStrictlyIncreasing}
 use Rattle.set_model.specs.Keys.{is_in}
-use Rattle.step_core.specs.Buckets.{class_keys}
 use Rattle.arena.specs.Hands.{words_at}
 use Rattle.step_core.specs.Content.{bucket_of, spot_of, InClass}
-use Rattle.step_core.specs.Fits.{HoldsClass}
 use Rattle.step_core.specs.Format.{row_words}
 use Rattle.step_core.specs.Limits.{max_exponent}
 use Rattle.step_core.specs.declared.format.TheConstants.{FIRST_BUCKET}
-use Rattle.step_core.specs.declared.published.Published.TheVariants.{Generation, Row}
-use Rattle.step_core.specs.declared.published.GenerationBlock.{GenerationBlock}
-use Rattle.step_core.specs.declared.published.RowBlock.{RowBlock}
-use Rattle.step_core.specs.declared.views.FixedCell.{FixedCell}
-use Rattle.step_core.specs.declared.views.FilledBucket.{FilledBucket}
+use Rattle.step_core.specs.declared.published.Published.TheVariants.{Generation}
 use Rattle.step_core.specs.declared.views.Known.{Known}
-use Rattle.step_core.specs.declared.views.OpenTurn.{OpenTurn}
 use Rattle.step_core.specs.declared.views.PassView.{PassView}
+use Rattle.step_core.specs.declared.views.RoundFacts.{RoundFacts}
 use Rattle.step_core.specs.declared.views.StepCounts.{StepCounts}
-use Rattle.cells.specs.Exchanges.{content_keys, fixed_at}
+use Rattle.cells.specs.Exchanges.{content_keys}
 use Rattle.cells.specs.Filling.{KnowsClosed, MayFill, source_row}
 use Rattle.cells.specs.Frames.{OnlyDraws}
-use Rattle.cells.specs.Known.{known_block, IsBucketWord, KnowsGeneration}
+use Rattle.cells.specs.Known.{IsBucketWord, KnowsGeneration}
 use Rattle.cells.specs.Sound.{IsSound}
 use Rattle.cells.specs.Tokens.{BlockValue}
 use Rattle.cells.proofs.laws.Known.{bucket_word_stays, knows_more}
-use Rattle.fset.specs.Content.{seen_keys}
-use Rattle.fset.specs.Ensuring.{BuildsFilling, ClosesBucket, IsFilling, IsSource, OnlyCloses, OnlyFillSteps, OnlyFills, RefusesFilling, cell_of}
-use Rattle.fset.specs.Frames.{AreKeysOf, Grows, IsKeyOf, KeepsOwn, Spends, filling_cost, row_cost}
-use Rattle.fset.specs.Joining.{joined, joined_keys}
-use Rattle.fset.specs.Rows.{Builds, IsOutOfWords, OnlyBuilds, Overdrew, RefusesRow, WasSpent}
-use Rattle.fset.specs.Seen.{IsSeen}
-use Rattle.fset.specs.Splitting.{split_keys}
+use Rattle.fset.specs.Ensuring.{IsFilling, IsSource, OnlyCloses, OnlyFillSteps, OnlyFills}
+use Rattle.fset.specs.Frames.{Grows, KeepsOwn}
+use Rattle.fset.specs.Rows.{IsOutOfWords, OnlyBuilds, Overdrew, WasSpent}
 use Rattle.fset.specs.declared.ensuring.Filling.{Filling}
-use Rattle.fset.specs.declared.seen.Seen.{Seen}
-use Rattle.fset.proofs.laws.Closing.{closed_content, closed_holds, closed_keys, closes_own, closes_then, fixed_at-here, fixed_at-other, knows_closed}
-use Rattle.fset.proofs.laws.Frames.{draws_grow, draws_own, grows_then, keys_of-either, keys_of-row, longer, own_then}
-use Rattle.fset.proofs.laws.Joining.{joined-rises, length-joined}
-use Rattle.fset.proofs.laws.Reading.{seen_stays}
-use Rattle.fset.proofs.laws.Sources.{joined_class, joined_from, joined_high, joined_low, join_source, other_source, sources_within, split_class, split_fewer, split_from, split_has, split_source}
-use Rattle.fset.proofs.laws.Splitting.{split-rises}
+use Rattle.fset.proofs.laws.Closing.{closes_own}
+use Rattle.fset.proofs.laws.Frames.{draws_grow, draws_own, grows_then, own_then}
 
 -- Steps that fill, and then further ones, are steps that fill.
 pub fill_steps_then : (before between after : StepCounts) → OnlyFillSteps before between → OnlyFillSteps between after
@@ -71,6 +56,7 @@ module _ (v0 v1 v2 : PassView) (learned : List Known) (closed : Grows learned 0 
   built_steps writes steps few no_draw no_fill builds = record {
     only = fill_steps_then v0.made v1.made v2.made steps (builds_steps writes v1.made v2.made builds);
     draws = omega (arith, no_draw, builds.draws);
+    no_fewer = omega (arith, no_fill, ap (λ (made : StepCounts). made.fills) builds.only);
     fills = omega (arith, no_fill, ap (λ (made : StepCounts). made.fills) builds.only);
     freezes = omega (arith, few, ap (λ (made : StepCounts). made.freezes) builds.only);
   }
@@ -92,23 +78,23 @@ module _ (v0 v1 v2 : PassView) (learned : List Known) (closed : Grows learned 0 
       ap (λ (view : PassView). view.filled) draws ∙ ap (λ (view : PassView). view.filled) only,
     )
 
-  -- Where a block was refused, it was so from before the sources were closed.
-  pub refused_from : (words : ℕ) → IsOutOfWords words v1 v2 → IsOutOfWords words v0 v2
-  refused_from words = ⊎_elim
-      (λ (was : WasSpent words v1 v2).
-      let refused : IsOutOfWords words v0 v2 = inl (record {
-        before = λ unspent. was.before (ap (λ (view : PassView). view.spent) only ∙ unspent);
-        still = was.still ∙ ap (λ (view : PassView). view.spent) only;
-        none = was.none;
-      }) in refused)
-      (λ (past : Overdrew words v1 v2).
-      let refused : IsOutOfWords words v0 v2 = inr (record {
-        at = past.at;
-        spent = past.spent;
-        behind = let before = past.behind in
-            omega (arith, before, ap (λ (view : PassView). view.facts.opened) only, ap (λ (view : PassView). view.drawn) only);
-        past = let end = past.past in omega (arith, end, ap (λ (view : PassView). view.facts.cap) only);
-      }) in refused)
+-- Where a block was refused, it was so from before what drew nothing.
+pub refused_from : (words : ℕ) (learned : List Known) (losses : ℕ) (old between new : PassView) → Grows learned 0 losses old between
+    → between.spent ≡ old.spent → IsOutOfWords words between new → IsOutOfWords words old new
+refused_from words learned losses old between new grows spent = ⊎_elim
+    (λ (was : WasSpent words between new).
+    let refused : IsOutOfWords words old new = inl (record {
+      before = λ unspent. was.before (spent ∙ unspent);
+      still = was.still ∙ spent;
+      none = was.none;
+    }) in refused)
+    (λ (past : Overdrew words between new).
+    let refused : IsOutOfWords words old new = inr (record {
+      at = past.at;
+      spent = past.spent;
+      behind = let behind = past.behind in omega (arith, behind, ap (λ (facts : RoundFacts). facts.opened) grows.facts, grows.drawn);
+      past = let end = past.past in omega (arith, end, ap (λ (facts : RoundFacts). facts.cap) grows.facts);
+    }) in refused)
 
 module _ (filling : Filling) (v0 : PassView) (f : IsFilling v0 filling) (sound : IsSound v0) where
   abbrev place : ℕ

@@ -1,21 +1,25 @@
 -- What calls leave of a pass's view adds up: what the first learned, drew and lost, and then the second.
-use Rattle.std.proofs.Common.{◌≡◌, ℕ, ◌+◌, ◌*◌, ◌≤◌, true, inl, inr, ◌⊎◌, ⊎_elim, Contains, List, [], ◌∷◌, ◌++◌, length, Option, Some, refl, sym, ap, ◌∙◌, subst, append_assoc, add-zero, zero-add, arith}
+use Rattle.std.proofs.Common.{◌≡◌, ℕ, ◌+◌, ◌*◌, ◌≤◌, inl, inr, ◌⊎◌, ⊎_elim, Contains, List, [], ◌∷◌, ◌++◌, length, Option, Some, refl, sym, ap, ◌∙◌, subst, append_assoc, add-zero, zero-add, length-append, arith}
 use mathlib.Core.List.{IsPrefix}
 use base.Growing.{prefix_refl, prefix_trans}
-use Rattle.std.proofs.Math.Nat.{le-max_left, le-max_right, max-le}
+use Rattle.std.proofs.Math.Nat.{le-max_left, le-max_right}
 use Rattle.std.proofs.lemmas.Bool.{cases_lt}
 use Rattle.std.proofs.lemmas.List.Elements.{Contains-append_left, Contains-append_right}
 use Rattle.std.proofs.lemmas.Nat.{mul-le}
 use Rattle.std.specs.List.Sorted.{IsStrictlyIncreasing}
-use Rattle.set_model.specs.Keys.{is_in}
 use Rattle.set_model.specs.declared.entry.Entry.{Entry}
 use Rattle.step_core.specs.declared.published.Published.{Published}
 use Rattle.step_core.specs.declared.published.Published.TheVariants.{Generation, Row, Op}
 use Rattle.step_core.specs.declared.published.RowBlock.{RowBlock}
 use Rattle.step_core.specs.declared.views.Known.{Known}
 use Rattle.step_core.specs.declared.views.PassView.{PassView}
+use Rattle.step_core.proofs.lists.Calls.{length-inside}
 use Rattle.cells.specs.Frames.{OnlyDraws, after_reads}
 use Rattle.cells.specs.Known.{known_block}
+use Rattle.cells.specs.Past.{inserted_keys}
+use Rattle.cells.specs.Sound.{IsSound}
+use Rattle.cells.proofs.laws.AfterSwaps.{inside_of}
+use Rattle.cells.proofs.laws.Known.{knows_new}
 use Rattle.fset.specs.Frames.{AreKeysOf, IsBehind, Grows, KeepsOwn, Spends, latest_row, row_or, turns_cost, width_of, widest}
 use Rattle.fset.specs.Standing.{HasPast}
 
@@ -41,6 +45,13 @@ grows_then first second words more losses lost old between new one two = record 
   drawn = omega (arith, one.drawn, two.drawn);
   lost = omega (arith, one.lost, two.lost);
 }
+
+-- What loses no turn, and then something that loses some, loses as many.
+pub then_loses : (first second : List Known) (losses : ℕ) (old between new : PassView) → Grows first 0 0 old between
+    → Grows second 0 losses between new → Grows (second ++ first) 0 losses old new
+then_loses first second losses old between new one two =
+    subst (λ (sum : ℕ). Grows (second ++ first) 0 sum old new) (let sum : 0 + losses ≡ losses = omega arith in sum)
+    (grows_then first second 0 0 0 losses old between new one two)
 
 -- The pass's own stays over both where it stays over each.
 pub own_then : (old between new : PassView) → KeepsOwn old between → KeepsOwn between new → KeepsOwn old new
@@ -86,12 +97,8 @@ draws_own old new only = record {
   used = ap (λ (view : PassView). view.used) only;
 }
 
--- Among learned blocks no row is wider than the widest: not the first,
-pub widest-first : (at : ℕ) (row : RowBlock) (others : List Known) → length row.keys ≤ widest (known_block at (Row row) ∷ others)
-widest-first at row others = le-max_left (length row.keys) (widest others)
-
--- and none behind it.
-pub widest-more : (known : Known) (others : List Known) → widest others ≤ widest (known ∷ others)
+-- Among learned blocks none behind the first is wider than the widest.
+widest-more : (known : Known) (others : List Known) → widest others ≤ widest (known ∷ others)
 widest-more known others = le-max_right (width_of known.block) (widest others)
 
 -- the row that was learned last, by the kind of the first block
@@ -102,12 +109,29 @@ latest_fits (Row first) other most row latest fits behind =
     let same : first ≡ row = cc in subst (λ (row : RowBlock). length row.keys ≤ most) same fits
 latest_fits (Op op) other most row latest fits behind = behind latest
 
--- nor is the one that was learned last
+-- Nor is the row that was learned last.
 pub widest-latest : (learned : List Known) (row : RowBlock) → latest_row learned ≡ Some row → length row.keys ≤ widest learned
 widest-latest [] row latest = absurd (cc)
 widest-latest (known ∷ others) row latest =
     latest_fits known.block (latest_row others) (widest (known ∷ others)) row latest (le-max_left (width_of known.block) (widest others))
     (λ behind. let fits = widest-latest others row behind in let more = widest-more known others in omega (arith, fits, more))
+
+-- it is among them, by the kind of the first block
+latest_at : (at : ℕ) (block : Published) (others : List Known) (row : RowBlock) → row_or block (latest_row others) ≡ Some row
+    → (latest_row others ≡ Some row → (from : ℕ) × Contains others (known_block from (Row row)))
+    → (from : ℕ) × Contains (known_block at block ∷ others) (known_block from (Row row))
+latest_at at (Generation generation) others row latest behind = let there = behind latest in
+    (there.0, Contains-append_right (known_block at (Generation generation) ∷ []) others (known_block there.0 (Row row)) there.1)
+latest_at at (Row first) others row latest behind =
+    let same : first ≡ row = cc in (at, (0, omega arith, ap (λ (row : RowBlock). known_block at (Row row)) same))
+latest_at at (Op op) others row latest behind = let there = behind latest in
+    (there.0, Contains-append_right (known_block at (Op op) ∷ []) others (known_block there.0 (Row row)) there.1)
+
+-- The row that was learned last is among those that were learned.
+pub latest-there : (learned : List Known) (row : RowBlock) → latest_row learned ≡ Some row
+    → (at : ℕ) × Contains learned (known_block at (Row row))
+latest-there [] row latest = absurd (cc)
+latest-there (known ∷ others) row latest = latest_at known.at known.block others row latest (latest-there others row)
 
 -- the row that was learned last where others were learned before, by the kind of the first block
 by_block : (block : Published) (behind all : Option RowBlock) (row : RowBlock) → row_or block behind ≡ Some row
@@ -116,27 +140,20 @@ by_block (Generation generation) behind all row latest more = more latest
 by_block (Row first) behind all row latest more = latest
 by_block (Op op) behind all row latest more = more latest
 
--- the costs of turns add up
+-- What turns may draw rises with the width,
+pub turns_cost_rises : (turns one all : ℕ) → one ≤ all → turns_cost turns one ≤ turns_cost turns all
+turns_cost_rises turns one all less = mul-le turns (2 * one + 8) turns (2 * all + 8) (omega arith) (omega (arith, less))
+
+-- and adds up.
 pub costs_add : (turns more words others one two all : ℕ) → (one ≤ all) × (two ≤ all) → words ≤ turns_cost turns one → others ≤ turns_cost more two
     → words + others ≤ turns_cost (turns + more) all
 costs_add turns more words others one two all (first, second) low high =
-    let less : turns * (2 * one + 8) ≤ turns * (2 * all + 8) = mul-le turns (2 * one + 8) turns (2 * all + 8) (omega arith) (omega (arith, first)) in
-    let rest : more * (2 * two + 8) ≤ more * (2 * all + 8) = mul-le more (2 * two + 8) more (2 * all + 8) (omega arith) (omega (arith, second)) in
+    let less = turns_cost_rises turns one all first in
+    let rest = turns_cost_rises more two all second in
     let sum : (turns + more) * (2 * all + 8) ≡ turns * (2 * all + 8) + more * (2 * all + 8) = grind (arith) in
     omega (arith, low, high, less, rest, sum)
 
--- Of blocks learned first and then others, no row is wider than the widest of all,
-pub widest-append : (first second : List Known) → (widest first ≤ widest (second ++ first)) × (widest second ≤ widest (second ++ first))
-widest-append first [] = (omega arith, omega arith)
-widest-append first (known ∷ second) =
-    let fits = widest-append first second in
-    let more = widest-more known (second ++ first) in
-    let here = le-max_left (width_of known.block) (widest (second ++ first)) in (
-      omega (arith, fits.0, more),
-      max-le here (omega (arith, fits.1, more)),
-    )
-
--- and the row learned last is the last of those learned then, if there is one.
+-- The row learned last is the last of those learned then, if there is one.
 pub latest_row-append : (first second : List Known) (row : RowBlock) → latest_row second ≡ Some row → latest_row (second ++ first) ≡ Some row
 latest_row-append first [] row latest = absurd (cc)
 latest_row-append first (known ∷ second) row latest =
@@ -240,8 +257,22 @@ spends_before cost losses last old between new spends grown = record {
   bound = spends.bound;
 }
 
+-- Turns that are lost then cost nothing more either.
+abbrev pub spends_lost : (cost : ℕ → ℕ) (losses : ℕ) (last : List Known) (old between new : PassView) → Spends cost 0 old between
+    → Grows last 0 losses between new → Spends cost losses old new
+spends_lost cost losses last old between new spends grown = record {
+  learned = last ++ spends.learned;
+  words = spends.words;
+  grows = subst (λ (z : ℕ × ℕ). Grows (last ++ spends.learned) z.0 z.1 old new)
+      (λ i. (add-zero spends.words i, zero-add losses i))
+      (grows_then spends.learned last spends.words 0 0 losses old between new spends.grows grown);
+  wide = spends.wide;
+  keys = keys_of-more last spends.learned spends.wide spends.keys;
+  bound = spends.bound;
+}
+
 -- What is bounded by one cost is by a greater one.
-pub spends_more : (cost more : ℕ → ℕ) (losses : ℕ) (old new : PassView) → ((width : ℕ) → cost width ≤ more width)
+abbrev pub spends_more : (cost more : ℕ → ℕ) (losses : ℕ) (old new : PassView) → ((width : ℕ) → cost width ≤ more width)
     → Spends cost losses old new → Spends more losses old new
 spends_more cost more losses old new less spends = record {
   learned = spends.learned;
@@ -260,3 +291,14 @@ past_from before between now entry grows past = record {
   begins = prefix_trans before between past.past grows past.begins;
   is_front = past.is_front;
 }
+
+-- No row that a call read or wrote has more keys than the opening has and inserts that the pass met.
+pub wide_fits : (cost : ℕ → ℕ) (losses : ℕ) (old new : PassView) (spends : Spends cost losses old new) → IsSound new
+    → length spends.wide ≤ length new.facts.keys + length (inserted_keys new.horizon)
+wide_fits cost losses old new spends sound =
+    let all : List ℕ = new.facts.keys ++ inserted_keys new.horizon in
+    let fits = length-inside spends.wide all spends.keys.rising (λ key here.
+    let from = spends.keys.from key here in
+    inside_of from.1.keys all
+    (sound.given from.0 from.1 (knows_new spends.learned old new spends.grows.known from.0 (Row from.1) from.2)) key from.3) in
+    omega (arith, fits, length-append new.facts.keys (inserted_keys new.horizon))

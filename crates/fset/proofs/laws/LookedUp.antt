@@ -18,9 +18,9 @@ use Rattle.fset.specs.Frames.{Grows}
 use Rattle.fset.specs.Looking.{LooksUp}
 use Rattle.fset.specs.Seen.{KnowsRowAt, ReadsRow}
 use Rattle.fset.specs.declared.seen.Seen.{Seen}
-use Rattle.fset.proofs.laws.Frames.{grows_then, latest_row-append, own_then}
+use Rattle.fset.proofs.laws.Frames.{grows_then, latest_row-append, own_then, then_loses}
 use Rattle.fset.proofs.laws.Looking.{head_grows}
-use Rattle.fset.proofs.laws.Meeting.{Met, then_loses}
+use Rattle.fset.proofs.laws.Meeting.{Met}
 use Rattle.fset.proofs.laws.Reading.{seen_content-plain}
 
 -- A head that was loaded was so from the front of now.

@@ -1,8 +1,5 @@
 -- A row that was met in the head, or behind a nil bucket in the generation before, is known and marked for the key.
-use Rattle.std.proofs.Common.{◌≡◌, ◌≢◌, ◌⊎◌, inl, inr, ⊎_elim, ℕ, ◌+◌, ◌%◌, ◌≤◌, List, [], ◌∷◌, ◌++◌, cond, Bool, Some, refl, sym, ap, ◌∙◌, subst, add-zero, arith}
-use mathlib.Core.List.{IsPrefix}
-use base.Growing.{prefix_refl}
-use Rattle.set_model.specs.declared.entry.Entry.{Entry}
+use Rattle.std.proofs.Common.{◌≡◌, ◌⊎◌, inl, inr, ⊎_elim, ℕ, ◌+◌, ◌%◌, ◌≤◌, List, [], ◌∷◌, ◌++◌, Some, refl, sym, ap, ◌∙◌, subst, add-zero, arith}
 use Rattle.step_core.specs.Buckets.{key_bucket}
 use Rattle.step_core.specs.Format.{IsFrozen, IsMutable, IsNil, row_address}
 use Rattle.step_core.specs.declared.published.Published.TheVariants.{Generation, Row}
@@ -12,18 +9,20 @@ use Rattle.step_core.specs.declared.views.Known.{Known}
 use Rattle.step_core.specs.declared.views.PassView.{PassView}
 use Rattle.step_core.specs.declared.views.StepCounts.{StepCounts}
 use Rattle.cells.specs.Frames.{after_reads}
-use Rattle.cells.specs.Known.{known_block, row_at, KnowsGeneration, KnowsRow, IsSealedWord}
+use Rattle.cells.specs.Known.{known_block, row_at, KnowsGeneration, KnowsRow}
 use Rattle.cells.specs.Marks.{IsHeadNow, IsMarkedFor, IsNilNow}
 use Rattle.cells.specs.Sound.{IsSound}
-use Rattle.cells.specs.Steps.{LoadsBucket, nil_bucket}
-use Rattle.cells.proofs.laws.BucketLoads.{is_nil-nil, load_bucket_grows, load_bucket_knows, load_bucket_learned, load_bucket_lost, load_bucket_lost_none, load_bucket_mutable, load_bucket_nil, odd_or_even}
+use Rattle.cells.specs.Steps.{LoadsBucket, LoadsSealed}
+use Rattle.cells.proofs.laws.BucketLoads.{load_bucket_knows, load_bucket_learned, load_bucket_lost, load_bucket_lost_none, load_bucket_mutable, load_bucket_nil, odd_or_even}
 use Rattle.cells.proofs.laws.Counted.{sound_counted}
-use Rattle.cells.proofs.laws.HeadLoads.{load_sealed_known}
-use Rattle.cells.proofs.laws.Known.{generation_at-known, knows_more, row_at-first}
-use Rattle.cells.proofs.laws.Sealed.{predecessor_word}
+use Rattle.cells.proofs.laws.Known.{knows_more, row_at-first}
 use Rattle.fset.specs.Frames.{Grows, KeepsOwn, latest_row}
 use Rattle.fset.specs.Looking.{MeetsBefore, MeetsInHead, MeetsRow}
-use Rattle.fset.proofs.laws.Frames.{grows_then, own_then, reads_grow, reads_own}
+use Rattle.fset.specs.Seeking.{KnowsGenerationAt, LoadsBucketOf}
+use Rattle.fset.specs.declared.seeking.LoadedBucket.{LoadedBucket}
+use Rattle.fset.proofs.laws.Looking.{bucket_grown, bucket_own, nil_noted}
+use Rattle.fset.proofs.laws.Naming.{front_still, named_is, names_grow, names_own, names_predecessor}
+use Rattle.fset.proofs.laws.Frames.{grows_then, own_then, reads_grow, reads_own, then_loses}
 
 -- what is known of a row that was met
 pub record Met (key : ℕ) (old : PassView) (at : ℕ) (new : PassView) : Type 0 where
@@ -49,13 +48,6 @@ pub record Met (key : ℕ) (old : PassView) (at : ℕ) (new : PassView) : Type 0
     bucket_loads = old.made.bucket_loads + buckets;
   }
 
--- what loses no turn, and then something that loses as many
-pub then_loses : (first second : List Known) (losses : ℕ) (old between new : PassView) → Grows first 0 0 old between
-    → Grows second 0 losses between new → Grows (second ++ first) 0 losses old new
-then_loses first second losses old between new one two =
-    subst (λ (sum : ℕ). Grows (second ++ first) 0 sum old new) (let sum : 0 + losses ≡ losses = omega arith in sum)
-    (grows_then first second 0 0 0 losses old between new one two)
-
 -- how many turns the load of a bucket lost
 lost_few : (place : ℕ) (old : PassView) (word : ℕ) (new : PassView) → LoadsBucket place old word new
     → (losses : ℕ) × (losses ≤ 1) × (new.lost ≡ old.lost + losses)
@@ -65,28 +57,6 @@ lost_few place old word new loads = ⊎_elim
     (λ (one : (new.lost ≡ old.lost + 1) × IsFrozen word).
     let few : (losses : ℕ) × (losses ≤ 1) × (new.lost ≡ old.lost + losses) = (1, omega arith, one.0) in few)
     (load_bucket_lost place old word new loads)
-
--- a load of a bucket makes no entry
-bucket_own : (place : ℕ) (old : PassView) (word : ℕ) (new : PassView) → LoadsBucket place old word new → KeepsOwn old new
-bucket_own place old word new loads = record {
-  mine = ap (λ (view : PassView). view.mine) loads.view;
-  flight = ap (λ (view : PassView). view.flight) loads.view;
-  used = ap (λ (view : PassView). view.used) loads.view;
-}
-
--- what a load of a bucket makes known, and what it lost
-bucket_grown : (place : ℕ) (old : PassView) (word : ℕ) (new : PassView) → LoadsBucket place old word new → (learned : List Known) (losses : ℕ)
-    → new.known ≡ learned ++ old.known → new.lost ≡ old.lost + losses → Grows learned 0 losses old new
-bucket_grown place old word new loads learned losses known lost = record {
-  number = ap (λ (view : PassView). view.number) loads.view;
-  facts = ap (λ (view : PassView). view.facts) loads.view;
-  front = load_bucket_grows place old word new loads;
-  known = known;
-  fixed = ([], ap (λ (view : PassView). view.fixed) loads.view);
-  asked = ([], ap (λ (view : PassView). view.asked) loads.view);
-  drawn = ap (λ (view : PassView). view.drawn) loads.view ∙ sym (add-zero old.drawn);
-  lost = lost;
-}
 
 module _ (head key at : ℕ) (v1 v2 : PassView) (now : IsHeadNow v1 head) (m : MeetsInHead head key v1 at v2) where
   abbrev between : PassView
@@ -137,6 +107,17 @@ module _ (head key at : ℕ) (v1 v2 : PassView) (now : IsHeadNow v1 head) (m : M
         made = ap (λ (view : PassView). view.made) loads.view;
       }
 
+-- Behind a nil bucket the generation before may be loaded from, once its address was.
+pub before_known : (head key : ℕ) (v1 v2 v3 : PassView) (nil : LoadedBucket) (predecessor : ℕ) → LoadsBucketOf head key v1 nil v2 → IsNil nil.word
+    → LoadsSealed (head + 1) v2 predecessor v3 → KnowsGenerationAt v3 predecessor
+before_known head key v1 v2 v3 nil predecessor finds is_nil names =
+    let generation = finds.generation in
+    let known = knows_more [] (after_reads 1 v1) v2 (load_bucket_nil nil.place (after_reads 1 v1) nil.word v2 finds.loads is_nil)
+    head (Generation generation) finds.is_word.known in
+    names_predecessor head generation v2 predecessor v3 known names
+    (λ none. finds.loads.filled head (key_bucket generation.exponent key) generation finds.is_word
+    (inr (sym (named_is head generation v2 predecessor v3 known names) ∙ none)) is_nil)
+
 module _ (head key at : ℕ) (v1 v4 : PassView) (sound : IsSound v1) (m : MeetsBefore head key v1 at v4) where
   abbrev first : PassView
   first = after_reads 1 v1
@@ -176,24 +157,16 @@ module _ (head key at : ℕ) (v1 v4 : PassView) (sound : IsSound v1) (m : MeetsB
   knows_head : KnowsGeneration v2 head generation
   knows_head = knows_more [] first v2 still_known head (Generation generation) m.finds.is_word.known
 
-  -- its generation has a predecessor,
-  behind : generation.predecessor ≢ 0
-  behind none = finds.filled head bucket generation m.finds.is_word (inr none) m.is_nil
-
-  -- whose address is the word behind the exponent
-  link : IsSealedWord v2 (head + 1) head 1 (Generation generation)
-  link = record { known = knows_head; sealed = omega arith; here = refl }
-
-  named_is : m.predecessor ≡ generation.predecessor
-  named_is = predecessor_word v2 head generation knows_head m.predecessor m.names.reads
+  -- the predecessor's address is the word behind its exponent
+  abbrev is_predecessor : m.predecessor ≡ generation.predecessor
+  is_predecessor = named_is head generation v2 m.predecessor v3 knows_head m.names
 
   -- reading it leaves the front as it was
-  front_still : v3.front ≡ v2.front
-  front_still =
-      ap (λ (view : PassView). view.front) m.names.view ∙ (m.names.stays head 1 (Generation generation) link (inr refl)).0
+  abbrev same_front : v3.front ≡ v2.front
+  same_front = front_still head generation v2 m.predecessor v3 knows_head m.names
 
-  more_known : v3.known ≡ m.names.learned ++ v2.known
-  more_known = load_sealed_known (head + 1) v2 m.predecessor v3 m.names
+  abbrev more_known : v3.known ≡ m.names.learned ++ v2.known
+  more_known = (names_grow head generation v2 m.predecessor v3 knows_head m.names).known
 
   knows_still : KnowsGeneration second head generation
   knows_still = knows_more m.names.learned v2 second more_known head (Generation generation) knows_head
@@ -201,20 +174,16 @@ module _ (head key at : ℕ) (v1 v4 : PassView) (sound : IsSound v1) (m : MeetsB
   -- the bucket before isn't nil
   filled : ¬ IsNil before_word
   filled = before_loads.followed m.predecessor (key_bucket m.loads.generation.exponent key) m.loads.generation m.loads.is_word head generation
-      knows_still (sym named_is)
+      knows_still (sym is_predecessor)
 
   -- the nil bucket is the latest that was found so, from the front of now
   nil_now : IsNilNow second head bucket
   nil_now =
-      let lookup = generation_at-known first m.nil.place head bucket generation (sound_counted v1 first.made sound) m.finds.is_word in
-      let history : v3.front ≡ finds.history = front_still ∙ load_bucket_mutable m.nil.place first m.nil.word v2 finds even in
-      let noted : v2.nils ≡ nil_bucket first m.nil.place finds.history ∷ first.nils =
-      ap (λ (view : PassView). view.nils) finds.view
-      ∙ ap (λ (b : Bool). cond b (nil_bucket first m.nil.place finds.history ∷ first.nils) first.nils) (is_nil-nil m.nil.word m.is_nil) in (
+      let history : v3.front ≡ finds.history = same_front ∙ load_bucket_mutable m.nil.place first m.nil.word v2 finds even in (
         first.nils,
         ap (λ (view : PassView). view.nils) m.names.view
-            ∙ noted
-            ∙ (λ i. record { at = lookup.0 i; bucket = lookup.1 i; front = sym history i } ∷ first.nils),
+            ∙ nil_noted m.nil.place first m.nil.word v2 finds m.is_nil head bucket generation (sound_counted v1 first.made sound) m.finds.is_word
+            ∙ (λ i. record { at = head; bucket = bucket; front = sym history i } ∷ first.nils),
       )
 
   -- frozen or not, the row is marked
@@ -222,7 +191,7 @@ module _ (head key at : ℕ) (v1 v4 : PassView) (sound : IsSound v1) (m : MeetsB
   marked_before = ⊎_elim
       (λ (odd : before_word % 2 ≡ 1).
       before_loads.marked.source m.predecessor (key_bucket m.loads.generation.exponent key) m.loads.generation m.loads.is_word odd head bucket
-      generation knows_still (sym named_is) nil_now key refl refl)
+      generation knows_still (sym is_predecessor) nil_now key refl refl)
       (λ (even_word : before_word % 2 ≡ 0).
       before_loads.marked.mutable m.predecessor (key_bucket m.loads.generation.exponent key) m.loads.generation m.loads.is_word filled even_word
       key refl)
@@ -231,33 +200,13 @@ module _ (head key at : ℕ) (v1 v4 : PassView) (sound : IsSound v1) (m : MeetsB
   abbrev lost_here : (losses : ℕ) × (losses ≤ 1) × (v4.lost ≡ second.lost + losses)
   lost_here = lost_few m.bucket.place second before_word v4 before_loads
 
-  -- the predecessor becomes known
-  names_grow : Grows m.names.learned 0 0 v2 v3
-  names_grow = record {
-    number = ap (λ (view : PassView). view.number) m.names.view;
-    facts = ap (λ (view : PassView). view.facts) m.names.view;
-    front = subst (λ (front : List Entry). IsPrefix v2.front front) (sym front_still) (prefix_refl v2.front);
-    known = more_known;
-    fixed = ([], ap (λ (view : PassView). view.fixed) m.names.view);
-    asked = ([], ap (λ (view : PassView). view.asked) m.names.view);
-    drawn = ap (λ (view : PassView). view.drawn) m.names.view ∙ sym (add-zero v2.drawn);
-    lost = ap (λ (view : PassView). view.lost) m.names.view ∙ sym (add-zero v2.lost);
-  }
-
-  names_own : KeepsOwn v2 v3
-  names_own = record {
-    mine = ap (λ (view : PassView). view.mine) m.names.view;
-    flight = ap (λ (view : PassView). view.flight) m.names.view;
-    used = ap (λ (view : PassView). view.used) m.names.view;
-  }
-
   -- The row of a bucket of the generation before is met.
   pub met_before : Met key v1 at v4
   met_before =
       let nil_lost = load_bucket_lost_none m.nil.place first m.nil.word v2 finds even ∙ sym (add-zero first.lost) in
       let one = grows_then [] [] 0 0 0 0 v1 first v2 (reads_grow 1 v1)
       (bucket_grown m.nil.place first m.nil.word v2 finds [] 0 still_known nil_lost) in
-      let two = grows_then [] m.names.learned 0 0 0 0 v1 v2 v3 one names_grow in
+      let two = grows_then [] m.names.learned 0 0 0 0 v1 v2 v3 one (names_grow head generation v2 m.predecessor v3 knows_head m.names) in
       let three = grows_then (m.names.learned ++ []) [] 0 0 0 0 v1 v3 second two (reads_grow 1 v3) in
       let row_known = load_bucket_learned m.bucket.place second before_word v4 before_loads filled in
       let four = then_loses ([] ++ (m.names.learned ++ [])) (known_block (row_address before_word) (Row before_loads.row) ∷ []) lost_here.0 v1 second v4
@@ -269,7 +218,7 @@ module _ (head key at : ℕ) (v1 v4 : PassView) (sound : IsSound v1) (m : MeetsB
         few = lost_here.1;
         grows = four;
         own = own_then v1 second v4 (own_then v1 v3 second (own_then v1 v2 v3 (own_then v1 first v2 (reads_own 1 v1)
-            (bucket_own m.nil.place first m.nil.word v2 finds)) names_own) (reads_own 1 v3))
+            (bucket_own m.nil.place first m.nil.word v2 finds)) (names_own head generation v2 m.predecessor v3 knows_head m.names)) (reads_own 1 v3))
             (bucket_own m.bucket.place second before_word v4 before_loads);
         row = before_loads.row;
         latest = refl;

@@ -1,5 +1,5 @@
 -- The load of a known generation's predecessor makes that known, if there is one, and tells nothing else.
-use Rattle.std.proofs.Common.{◌≡◌, ◌≢◌, ℕ, ◌+◌, List, [], ◌∷◌, ◌++◌, inr, refl, sym, ap, ◌∙◌, subst, add-zero, arith}
+use Rattle.std.proofs.Common.{◌≡◌, ◌≢◌, ℕ, ◌+◌, List, [], ◌++◌, inr, refl, sym, ap, ◌∙◌, subst, add-zero, arith}
 use mathlib.Core.List.{IsPrefix}
 use base.Growing.{prefix_refl}
 use Rattle.set_model.specs.declared.entry.Entry.{Entry}
@@ -7,7 +7,7 @@ use Rattle.step_core.specs.declared.published.Published.TheVariants.{Generation}
 use Rattle.step_core.specs.declared.published.GenerationBlock.{GenerationBlock}
 use Rattle.step_core.specs.declared.views.Known.{Known}
 use Rattle.step_core.specs.declared.views.PassView.{PassView}
-use Rattle.cells.specs.Known.{known_block, IsSealedWord, KnowsGeneration}
+use Rattle.cells.specs.Known.{IsSealedWord, KnowsGeneration}
 use Rattle.cells.specs.Steps.{LoadsSealed}
 use Rattle.cells.proofs.laws.HeadLoads.{load_sealed_known}
 use Rattle.cells.proofs.laws.Known.{knows_first}

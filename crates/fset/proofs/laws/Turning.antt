@@ -1,5 +1,5 @@
 -- How a turn ends, from the key's bucket and row being found: it is answered by reading or by its exchange, is lost, or is Full.
-use Rattle.std.proofs.Common.{◌≡◌, ◌≢◌, ℕ, ◌+◌, ◌-◌, ◌^◌, ◌≤◌, ◌<◌, Bool, true, false, not, ◌&&◌, ◌||◌, nat_eq, List, [], ◌∷◌, ◌++◌, length, drop, Option, Some, None, inl, inr, ⊎_elim, refl, sym, ap, ◌∙◌, subst, add-zero, arith}
+use Rattle.std.proofs.Common.{◌≡◌, ◌≢◌, ℕ, ◌+◌, ◌-◌, ◌^◌, ◌≤◌, ◌<◌, Bool, true, false, not, ◌&&◌, ◌||◌, nat_eq, List, [], ◌∷◌, ◌++◌, length, drop, Option, Some, None, inl, inr, ⊎_elim, refl, sym, ap, ◌∙◌, subst, add-zero, zero-add, arith}
 use base.Growing.{prefix_refl, prefix_trans}
 use Rattle.std.proofs.lemmas.Bool.Decides.{nat_tests}
 use Rattle.std.specs.List.Sorted.{IsStrictlyIncreasing}
@@ -16,7 +16,6 @@ use Rattle.step_core.specs.Rising.{ChangesKeys, change_of, keys_after_call}
 use Rattle.step_core.specs.declared.format.TheConstants.{FIRST_KEY}
 use Rattle.step_core.specs.declared.published.Published.TheVariants.{Row}
 use Rattle.step_core.specs.declared.published.RowBlock.{RowBlock}
-use Rattle.step_core.specs.declared.views.Known.{Known}
 use Rattle.step_core.specs.declared.views.PassView.{PassView}
 use Rattle.step_core.specs.declared.views.RoundFacts.{RoundFacts}
 use Rattle.step_core.specs.declared.views.StepCounts.{StepCounts}
@@ -33,13 +32,13 @@ use Rattle.cells.proofs.laws.Known.{knows_first}
 use Rattle.cells.proofs.laws.Swaps.{content_keys-plain}
 use Rattle.fset.specs.Standing.{Enters, entry_for}
 use Rattle.fset.specs.Content.{front_has, seen_content}
-use Rattle.fset.specs.Frames.{Grows, KeepsOwn, row_cost, turns_cost, widest}
+use Rattle.fset.specs.Frames.{AreKeysOf, Grows, KeepsOwn, Spends, filling_cost, row_cost, turns_cost}
 use Rattle.fset.specs.Rows.{Builds, Overdrew, RefusesRow, WasSpent}
 use Rattle.fset.specs.Seen.{IsSeen}
-use Rattle.fset.specs.Seeking.{IsUnderWay, Seeks}
+use Rattle.fset.specs.Seeking.{DrawsToFill, FindsFrozen, FindsNil, IsUnderWay, Seeks}
 use Rattle.fset.specs.Turns.{AnswersTurn, LosesTurn, RefusesTurn, WouldChange, leaves_key, most_keys}
 use Rattle.fset.specs.declared.seeking.Sought.{Sought}
-use Rattle.fset.proofs.laws.Frames.{behind_self, draws_grow, draws_own, grows_then, own_then, reads_grow, reads_own, widest-first, widest-latest}
+use Rattle.fset.proofs.laws.Frames.{IsLonger, behind_self, draws_grow, draws_own, grows_then, keys_of-row, latest-there, longer, own_then, reads_grow, reads_own, spends_before, spends_lost, spends_more}
 use Rattle.fset.proofs.laws.Built.{row_room}
 use Rattle.fset.proofs.laws.Reading.{seen_content-plain}
 use Rattle.fset.proofs.laws.Sought.{under_way_then}
@@ -118,6 +117,43 @@ won_grown serial old at view new won =
       lost = sym (add-zero view.lost);
     })
 
+-- what filling a bucket costs fits into a turn
+row_in_turn : (width : ℕ) → row_cost width ≤ turns_cost 1 width
+row_in_turn width = omega arith
+
+-- A turn is lost where its bucket was frozen: so it has other passes in its round,
+pub frozen_turn : (call : Call) (key : ℕ) (old new : PassView) → FindsFrozen old new → IsSound new → LosesTurn call key old new
+frozen_turn call key old new frozen sound = record {
+  spends = spends_more row_cost (turns_cost 1) 1 old new row_in_turn frozen.spends;
+  own = frozen.own;
+  cause = inr frozen;
+  unspent = frozen.unspent;
+  spent = frozen.spent;
+  others = λ alone.
+      let none = sound.lone (ap (λ (facts : RoundFacts). facts.seats) frozen.spends.grows.facts ∙ alone) in
+      absurd (omega (arith, none, frozen.spends.grows.lost));
+}
+
+-- and Full where no block to fill it with was to be had.
+pub nil_turn : (call : Call) (key : ℕ) (old new : PassView) → FindsNil key old new → RefusesTurn call key old new
+nil_turn call key old new nil = record {
+  spends = spends_more filling_cost (turns_cost 1) 0 old new (λ width. omega arith) nil.spends;
+  own = nil.own;
+  needed = inr nil;
+  before = 0;
+  last = nil.spends.words;
+  words = sym (zero-add nil.spends.words);
+  full = ⊎_elim
+      (λ (was : WasSpent nil.spends.words old new). inl was)
+      (λ (over : Overdrew nil.spends.words old new). inr (record {
+        at = over.at;
+        spent = over.spent;
+        behind = let behind = over.behind in omega (arith, behind);
+        past = over.past;
+      }))
+      nil.full;
+}
+
 module _ (key : ℕ) (call : Call) (v0 v1 v2 : PassView) (sought : Sought) (seeks : Seeks key v0 sought v1) (loads : ℕ)
     (same : v2 ≡ after_reads loads v1) (sound : IsSound v2) (taken : Bool) (found : taken ≡ is_in (keys_at v1 sought.row.at) key)
     (writes : call ≢ Contains) where
@@ -128,9 +164,15 @@ module _ (key : ℕ) (call : Call) (v0 v1 v2 : PassView) (sought : Sought) (seek
   keys = keys_at v2 at
 
   -- looking for the key leaves the turn under way
-  way : IsUnderWay key 0 v0 sought v2
-  way = under_way_then key 0 v0 sought v1 v2 sound seeks.under_way (subst (Grows [] 0 0 v1) (sym same) (reads_grow loads v1))
-      (subst (KeepsOwn v1) (sym same) (reads_own loads v1)) (ap (λ (view : PassView). view.turn) same)
+  abbrev way : IsUnderWay key row_cost v0 sought v2
+  way =
+      let spent = seeks.under_way.spends in
+      under_way_then key row_cost row_cost 0 v0 sought v1 v2 sound seeks.under_way (subst (Grows [] 0 0 v1) (sym same) (reads_grow loads v1))
+      (subst (KeepsOwn v1) (sym same) (reads_own loads v1)) (ap (λ (view : PassView). view.turn) same) spent.wide spent.keys
+      (omega (arith, spent.bound))
+
+  abbrev spends : Spends row_cost 0 v0 v2
+  spends = way.spends
 
   -- so far no row has an operation
   plain : (row_at v2.known at).op ≡ 0
@@ -151,8 +193,27 @@ module _ (key : ℕ) (call : Call) (v0 v1 v2 : PassView) (sought : Sought) (seek
   is = found ∙ sym (ap (λ (view : PassView). is_in (keys_at view at) key) same)
 
   -- the row is among those that the turn learned
-  read_fits : length keys ≤ widest way.learned
-  read_fits = subst (λ (row : RowBlock). length row.keys ≤ widest way.learned) (sym way.is_row) (widest-latest way.learned way.row way.latest)
+  keys_read : AreKeysOf spends.learned keys
+  keys_read =
+      let there = latest-there spends.learned way.row way.latest in
+      subst (AreKeysOf spends.learned) (sym (ap (λ (row : RowBlock). row.keys) way.is_row))
+      (keys_of-row spends.learned there.0 way.row there.1 (subst (λ (row : RowBlock). IsStrictlyIncreasing row.keys) way.is_row rising))
+
+  -- the wider of it and of the row that filled the bucket
+  abbrev wider : (wide : List ℕ) × IsLonger spends.wide keys wide
+  wider = longer spends.wide keys
+
+  wider_read : AreKeysOf spends.learned wider.0
+  wider_read = ⊎_elim
+      (λ (is : wider.0 ≡ spends.wide). subst (AreKeysOf spends.learned) (sym is) spends.keys)
+      (λ (is : wider.0 ≡ keys). subst (AreKeysOf spends.learned) (sym is) keys_read)
+      wider.1.which
+
+  -- where no bucket was filled nothing was drawn
+  unfilled : DrawsToFill spends.words v0 v2
+  unfilled fills =
+      let none = seeks.unfilled (sym (ap (λ (view : PassView). view.made.fills) same) ∙ fills) in
+      (omega (arith, none.0), ap (λ (view : PassView). view.hands) same ∙ none.1)
 
   -- the row agrees with the set after the front
   content : is_in keys key ≡ front_has v2 key
@@ -171,8 +232,8 @@ module _ (key : ℕ) (call : Call) (v0 v1 v2 : PassView) (sought : Sought) (seek
       let is_keys : content_keys v2 way.row ≡ keys =
       content_keys-plain v2 way.row (sym (ap (λ (row : RowBlock). row.op) way.is_row) ∙ plain) ∙ sym (ap (λ (row : RowBlock). row.keys) way.is_row) in
       record {
-        spends = record { learned = way.learned; words = 0; grows = way.grows; bound = omega arith };
-        reads = λ unchanged. refl;
+        spends = spends_more row_cost (turns_cost 1) 0 v0 v2 row_in_turn spends;
+        reads = λ unchanged. (spends.bound, unfilled);
         spent = spent_same;
         stands = record { own = way.own; answer_is = sym answer ∙ ap (answer_where call) (is ∙ content) };
         width = record {
@@ -198,35 +259,43 @@ module _ (key : ℕ) (call : Call) (v0 v1 v2 : PassView) (sought : Sought) (seek
     still_wanted view facts front =
         ap (answer_where call) ((λ i. members_after (is_in (facts i).keys) (front i) key) ∙ sym content ∙ sym is) ∙ answer
 
-    -- what its row costs
-    cost_fits : (learned : List Known) (words : ℕ) → length keys ≤ widest learned → words ≤ row_cost (length changed)
-        → words ≤ turns_cost 1 (widest learned)
-    cost_fits learned words fits bound = omega (arith, bound, fits, at_most_one_more call key keys rising changes)
+    -- what filling its bucket and its row cost
+    cost_fits : (words : ℕ) → words ≤ row_cost (length changed) → spends.words + words ≤ turns_cost 1 (length wider.0)
+    cost_fits words bound =
+        omega (arith, bound, spends.bound, wider.1.first, wider.1.second, at_most_one_more call key keys rising changes)
 
     -- It is Full where the row was refused a block.
     pub full_turn : (v3 : PassView) → RefusesRow changed v2 v3 → RefusesTurn call key v0 v3
     full_turn v3 refuses = record {
       spends = record {
-        learned = way.learned;
-        words = refuses.words;
-        grows = subst (λ (sum : ℕ). Grows way.learned sum 0 v0 v3) (let sum : 0 + refuses.words ≡ refuses.words = omega arith in sum)
-            (grows_then way.learned [] 0 refuses.words 0 0 v0 v2 v3 way.grows (draws_grow refuses.words v2 v3 refuses.only refuses.drawn));
-        bound = cost_fits way.learned refuses.words read_fits refuses.bound;
+        learned = spends.learned;
+        words = spends.words + refuses.words;
+        grows = grows_then spends.learned [] spends.words refuses.words 0 0 v0 v2 v3 spends.grows
+            (draws_grow refuses.words v2 v3 refuses.only refuses.drawn);
+        wide = wider.0;
+        keys = wider_read;
+        bound = cost_fits refuses.words refuses.bound;
       };
       own = own_then v0 v2 v3 way.own (draws_own v2 v3 refuses.only);
-      wanted = still_wanted v3 (ap (λ (view : PassView). view.facts) refuses.only) (ap (λ (view : PassView). view.front) refuses.only);
+      needed = inl (still_wanted v3 (ap (λ (view : PassView). view.facts) refuses.only) (ap (λ (view : PassView). view.front) refuses.only));
+      before = spends.words;
+      last = refuses.words;
+      words = refl;
       full = ⊎_elim
           (λ (was : WasSpent refuses.words v2 v3). inl (record {
             before = subst (λ (spent : Option ℕ). spent ≢ None) spent_same was.before;
             still = was.still ∙ spent_same;
-            none = was.none;
+            none = ⊎_elim
+                (λ (unspent : v0.spent ≡ None). absurd (was.before (spent_same ∙ unspent)))
+                (λ (none : seeks.under_way.spends.words ≡ 0). let all : spends.words + refuses.words ≡ 0 = omega (arith, none, was.none) in all)
+                seeks.unspent;
           }))
           (λ (over : Overdrew refuses.words v2 v3). inr (record {
             at = over.at;
             spent = over.spent;
             behind = subst (λ (z : RoundFacts × ℕ). z.0.opened + z.1 ≤ over.at)
-                (λ i. (way.grows.facts i, (way.grows.drawn ∙ add-zero v0.drawn) i)) over.behind;
-            past = subst (λ (facts : RoundFacts). facts.cap < over.at + refuses.words) way.grows.facts over.past;
+                (λ i. (spends.grows.facts i, spends.grows.drawn i)) over.behind;
+            past = subst (λ (facts : RoundFacts). facts.cap < over.at + refuses.words) spends.grows.facts over.past;
           }))
           refuses.full;
     }
@@ -237,13 +306,10 @@ module _ (key : ℕ) (call : Call) (v0 v1 v2 : PassView) (sought : Sought) (seek
       changed_small = let room = row_room v2 sought.row sound way.seen in
           omega (arith, room, way.seen.count, builds.long, at_most_one_more call key keys rising changes)
 
-      built : IsUnderWay key builds.words v0 sought v3
-      built = under_way_then key builds.words v0 sought v2 v3 sound3 way (draws_grow builds.words v2 v3 builds.only builds.drawn)
-          (draws_own v2 v3 builds.only) (ap (λ (view : PassView). view.turn) builds.only)
-
-      built_fits : length keys ≤ widest built.learned
-      built_fits = subst (λ (row : RowBlock). length row.keys ≤ widest built.learned)
-          (sym built.is_row ∙ ap (λ (view : PassView). row_at view.known at) builds.only) (widest-latest built.learned built.row built.latest)
+      abbrev built : IsUnderWay key (turns_cost 1) v0 sought v3
+      built = under_way_then key row_cost (turns_cost 1) builds.words v0 sought v2 v3 sound3 way
+          (draws_grow builds.words v2 v3 builds.only builds.drawn) (draws_own v2 v3 builds.only)
+          (ap (λ (view : PassView). view.turn) builds.only) wider.0 wider_read (cost_fits builds.words builds.bound)
 
       -- the row that the word names is the one that was read
       named : named_row v3 sought.word ≡ row_at v2.known at
@@ -286,36 +352,32 @@ module _ (key : ℕ) (call : Call) (v0 v1 v2 : PassView) (sought : Sought) (seek
 
       -- It is lost with that.
       pub lost_turn : (v4 : PassView) → LosesSwap v3 v4 → LosesTurn call key v0 v4
-      lost_turn v4 lost = record {
-        spends = record {
-          learned = built.learned;
-          words = builds.words;
-          grows = subst (λ (sum : ℕ). Grows built.learned sum 1 v0 v4) (add-zero builds.words)
-              (grows_then built.learned [] builds.words 0 0 1 v0 v3 v4 built.grows (lost_grows v3 v4 lost));
-          bound = cost_fits built.learned builds.words built_fits builds.bound;
-        };
-        own = own_then v0 v3 v4 built.own (record {
-          mine = ap (λ (view : PassView). view.mine) lost.view_is;
-          flight = ap (λ (view : PassView). view.flight) lost.view_is;
-          used = ap (λ (view : PassView). view.used) lost.view_is;
-        });
-        spent = ap (λ (view : PassView). view.spent) lost.view_is ∙ builds.spent ∙ spent_same;
-        wanted = still_wanted v4
-            (ap (λ (view : PassView). view.facts) lost.view_is ∙ ap (λ (view : PassView). view.facts) builds.only)
-            (ap (λ (view : PassView). view.front) lost.view_is ∙ ap (λ (view : PassView). view.front) builds.only);
-        exchanged = ap (λ (view : PassView). view.made.row_swaps) lost.view_is
-            ∙ ap (λ (count : ℕ). count + 1) (ap (λ (made : StepCounts). made.row_swaps) builds.steps.only
-            ∙ ap (λ (view : PassView). view.made.row_swaps) same ∙ ap (λ (made : StepCounts). made.row_swaps) seeks.made);
-        unspent = sym spent_same ∙ builds.unspent;
-        others = subst (λ (facts : RoundFacts). facts.seats ≢ 1) built.grows.facts lost.others;
-      }
+      lost_turn v4 lost =
+          let unspent : v0.spent ≡ None = sym spent_same ∙ builds.unspent in
+          record {
+            spends = spends_lost (turns_cost 1) 1 [] v0 v3 v4 built.spends (lost_grows v3 v4 lost);
+            own = own_then v0 v3 v4 built.own (record {
+              mine = ap (λ (view : PassView). view.mine) lost.view_is;
+              flight = ap (λ (view : PassView). view.flight) lost.view_is;
+              used = ap (λ (view : PassView). view.used) lost.view_is;
+            });
+            cause = inl (record {
+              wanted = still_wanted v4
+                  (ap (λ (view : PassView). view.facts) lost.view_is ∙ ap (λ (view : PassView). view.facts) builds.only)
+                  (ap (λ (view : PassView). view.front) lost.view_is ∙ ap (λ (view : PassView). view.front) builds.only);
+              exchanged = ap (λ (view : PassView). view.made.row_swaps) lost.view_is
+                  ∙ ap (λ (count : ℕ). count + 1) (ap (λ (made : StepCounts). made.row_swaps) builds.steps.only
+                  ∙ ap (λ (view : PassView). view.made.row_swaps) same ∙ ap (λ (made : StepCounts). made.row_swaps) seeks.steps.only);
+              unspent = unspent;
+            });
+            unspent = inl unspent;
+            spent = ap (λ (view : PassView). view.spent) lost.view_is ∙ builds.spent ∙ spent_same;
+            others = subst (λ (facts : RoundFacts). facts.seats ≢ 1) built.spends.grows.facts lost.others;
+          }
 
       module _ (v4 : PassView) (serial : ℕ) (won : SwapsRow serial sought.word block.at v3 v4) where
         abbrev published : RowBlock
         published = swapped_row v3 sought.word block.at
-
-        abbrev learned : List Known
-        learned = known_block block.at (Row published) ∷ built.learned
 
         -- the row that it published has the changed keys
         published_keys : content_keys v4 published ≡ changed
@@ -326,14 +388,14 @@ module _ (key : ℕ) (call : Call) (v0 v1 v2 : PassView) (sought : Sought) (seek
 
         -- the entry is that of the call
         is_entry : swap_entry v3 serial sought.word block.at ≡ entry_for v0.number serial call key true
-        is_entry = (λ i. entry_by (built.grows.number i) serial (is_change i))
+        is_entry = (λ i. entry_by (built.spends.grows.number i) serial (is_change i))
 
         entered : v0.flight ≡ None → Enters (entry_for v0.number serial call key true) v0 v4
         entered idle = record {
           past = record {
             past = won.history;
             rest = [];
-            begins = prefix_trans v0.front v3.front won.history built.grows.front won.grows;
+            begins = prefix_trans v0.front v3.front won.history built.spends.grows.front won.grows;
             is_front = won_front serial sought.word block.at v3 v4 won ∙ ap (λ (entry : Entry). won.history ++ entry ∷ []) is_entry;
           };
           mine = won_mine serial sought.word block.at v3 v4 won
@@ -345,14 +407,8 @@ module _ (key : ℕ) (call : Call) (v0 v1 v2 : PassView) (sought : Sought) (seek
         pub answered_by_exchange : (width : ℕ) → IsSound v4 → v0.flight ≡ None → width ≡ length changed
             → AnswersTurn serial call key (record { changed = true; width = width }) v0 v4
         answered_by_exchange width sound4 idle is = record {
-          spends = record {
-            learned = learned;
-            words = builds.words;
-            grows = subst (λ (sum : ℕ). Grows learned sum 0 v0 v4) (add-zero builds.words)
-                (grows_then built.learned (known_block block.at (Row published) ∷ []) builds.words 0 0 0 v0 v3 v4 built.grows
-                (won_grown serial sought.word block.at v3 v4 won));
-            bound = omega (arith, builds.bound, widest-first block.at published built.learned, ap length in_hand);
-          };
+          spends = spends_before (turns_cost 1) 0 (known_block block.at (Row published) ∷ []) v0 v3 v4 built.spends
+              (won_grown serial sought.word block.at v3 v4 won);
           stands = entered idle;
           reads = λ unchanged. absurd (cc);
           spent = ap (λ (view : PassView). view.spent) won.view_is ∙ builds.spent ∙ spent_same;

@@ -32,8 +32,12 @@ fn joined(round: &Round, pass: &mut Pass, low: u64, high: u64) -> Option<u64>
     requires pass { IsPassOf round.now pass.old }
     ensures pass { IsSamePass pass.old pass.new }
 {
-    let first = seek(round, pass, low);
-    let second = seek(round, pass, high);
+    let Seek::Found(first) = seek(round, pass, low) else {
+        return None;
+    };
+    let Seek::Found(second) = seek(round, pass, high) else {
+        return None;
+    };
     round.sound(pass);
     match build_joined(round, pass, &first.row, &second.row) {
         Ok(block) => Some(block.len()),

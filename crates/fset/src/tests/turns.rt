@@ -42,7 +42,9 @@ fn has(round: &Round, pass: &mut Pass, key: u64) -> bool
     ensures pass { IsSamePass pass.old pass.new }
     ensures idle { pass.new.view.flight ≡ pass.old.view.flight }
 {
-    let sought = seek(round, pass, key);
+    let Seek::Found(sought) = seek(round, pass, key) else {
+        return false;
+    };
     find(round, pass, &sought.row, key)
 }
 
@@ -161,7 +163,9 @@ fn turns_in_two_buckets_leave_each_other_alone(rt: HostRuntime) -> Result<(), Fa
 #[test]
 fn a_builder_gives_a_block_of_its_rows_length(rt: HostRuntime) -> Result<(), Fail> {
     let (round, mut pass) = begin(rt.alloc(), &[1, 2, 3, 4, 5], 10)?;
-    let sought = seek(&round, &mut pass, 3);
+    let Seek::Found(sought) = seek(&round, &mut pass, 3) else {
+        panic!(rt; "no bucket is nil or frozen")
+    };
     assert_eq!(rt;
         built(&round, &mut pass, &sought.row, Call::Remove, 3),
         Some(4)
@@ -247,7 +251,9 @@ fn ready_to_insert(round: &Round, pass: &mut Pass, key: u64) -> Option<Ready>
     ensures ready { IfSome result
         (λ ready. MaySwapRow pass.new.view ready.place ready.word ready.block.at) }
 {
-    let sought = seek(round, pass, key);
+    let Seek::Found(sought) = seek(round, pass, key) else {
+        return None;
+    };
     let place = place_among(round, pass, &sought.row, key);
     round.sound(pass);
     if place.taken {

@@ -1,6 +1,5 @@
 -- A call that lost some turns, and then makes another, is answered, refused, or has lost one more.
-use Rattle.std.proofs.Common.{◌≡◌, ◌≢◌, ℕ, ◌+◌, ◌⊎◌, ◌<◌, ◌≤◌, Bool, true, false, [], ◌∷◌, ◌++◌, None, inl, inr, ⊎_elim, refl, sym, ◌∙◌, subst, add-zero, arith}
-use native.Mathlib.Decide.{ℕ_discrete}
+use Rattle.std.proofs.Common.{◌≡◌, ◌≢◌, ℕ, ◌+◌, ◌⊎◌, ◌<◌, ◌≤◌, Bool, true, false, [], ◌∷◌, ◌++◌, length, None, inl, inr, ⊎_elim, refl, sym, ap, ◌∙◌, subst, add-zero, arith}
 use base.Growing.{prefix_refl}
 use Rattle.set_model.specs.declared.call.Call.{Call}
 use Rattle.set_model.specs.declared.call.Call.TheVariants.{Insert, Remove, Contains}
@@ -8,29 +7,34 @@ use Rattle.step_core.specs.declared.views.PassView.{PassView}
 use Rattle.step_core.specs.declared.views.RoundFacts.{RoundFacts}
 use Rattle.step_core.specs.declared.views.StepCounts.{StepCounts}
 use Rattle.fset.specs.Standing.{AnswerStands, HasPast, IsReading, TriedStands, entry_for}
-use Rattle.fset.specs.Frames.{KeepsOwn, Spends, turns_cost, widest}
-use Rattle.fset.specs.Rows.{IsOutOfWords, Overdrew, WasSpent}
-use Rattle.fset.specs.Turns.{AnswersTurn, AreOneTurn, LosesTurn, RefusesTurn, WouldChange}
+use Rattle.fset.specs.Frames.{KeepsOwn, Spends, turns_cost}
+use Rattle.fset.specs.Rows.{OverdrewAfter, WasSpent}
+use Rattle.fset.specs.Turns.{AnswersTurn, AreOneTurn, LosesTurn, RefusesTurn}
 use Rattle.fset.specs.declared.outcomes.Answered.{Answered}
-use Rattle.fset.proofs.laws.Frames.{behind_self, costs_add, latest_row-append, own_then, past_from, spends_then, widest-append}
-use Rattle.hash_set.specs.Calls.{AnswersCall, AreTurns, LosesCall, OverdrewAfter, RefusesCall, Tries}
+use Rattle.fset.proofs.laws.Frames.{behind_self, keys_of-none, latest_row-append, longer, own_then, past_from, spends_then, turns_cost_rises}
+use Rattle.hash_set.specs.Calls.{AnswersCall, AreTurns, LosesCall, LosesLast, RefusesCall, Tries}
 
 -- so many turns were made, and lost
 pub record LosesTurns (call : Call) (key turns : ℕ) (old new : PassView) : Type 0 where
   pub tries : Tries turns turns old new
   pub own : KeepsOwn old new
   pub spent : new.spent ≡ old.spent
-  pub unspent : turns ≢ 0 → old.spent ≡ None
-  pub wanted : turns ≢ 0 → WouldChange call key new
+  pub unspent : (old.spent ≡ None) ⊎ (tries.spends.words ≡ 0)
+  pub last : turns ≢ 0 → LosesLast turns call key old new
 
 -- turns that follow each other make the steps of all of them
 turns_then : (turns : ℕ) (before between after : StepCounts) → AreTurns turns before between → AreOneTurn between after
     → AreTurns (turns + 1) before after
 turns_then turns before between after some_turns one = record {
   heads = omega (arith, some_turns.heads, one.heads);
+  some_buckets = omega (arith, some_turns.some_buckets, one.some_bucket);
   buckets = omega (arith, some_turns.buckets, one.buckets);
   draws = omega (arith, some_turns.draws, one.draws);
   swaps = omega (arith, some_turns.swaps, one.swaps);
+  no_fewer = omega (arith, some_turns.no_fewer, one.no_fewer);
+  fills = omega (arith, some_turns.fills, one.fills);
+  freezes = omega (arith, some_turns.freezes, one.freezes);
+  head_swaps = one.head_swaps ∙ some_turns.head_swaps;
   notes = one.notes ∙ some_turns.notes;
   learned = one.learned ∙ some_turns.learned;
 }
@@ -52,13 +56,20 @@ none_lost call key view = record {
         drawn = sym (add-zero view.drawn);
         lost = sym (add-zero view.lost);
       };
+      wide = [];
+      keys = keys_of-none [];
       bound = omega arith;
     };
     steps = record {
       heads = sym (add-zero view.made.head_loads);
-      buckets = sym (add-zero view.made.bucket_loads);
+      some_buckets = omega arith;
+      buckets = omega arith;
       draws = omega arith;
       swaps = omega arith;
+      no_fewer = omega arith;
+      fills = omega arith;
+      freezes = omega arith;
+      head_swaps = refl;
       notes = refl;
       learned = refl;
     };
@@ -66,8 +77,8 @@ none_lost call key view = record {
   };
   own = record { mine = refl; flight = refl; used = refl };
   spent = refl;
-  unspent = λ some_lost. absurd (some_lost refl);
-  wanted = λ some_lost. absurd (some_lost refl);
+  unspent = inr refl;
+  last = λ some_lost. absurd (some_lost refl);
 }
 
 -- a reading with the answer false
@@ -112,8 +123,14 @@ module _ (call : Call) (key losses : ℕ) (old between : PassView) (lost : Loses
     };
     own = own_then old between new lost.own turn.own;
     spent = turn.spent ∙ lost.spent;
-    unspent = λ some_lost. sym lost.spent ∙ turn.unspent;
-    wanted = λ some_lost. turn.wanted;
+    unspent = ⊎_elim
+        (λ (unspent : old.spent ≡ None). inl unspent)
+        (λ (none : lost.tries.spends.words ≡ 0). ⊎_elim
+        (λ (unspent : between.spent ≡ None). inl (sym lost.spent ∙ unspent))
+        (λ (too : turn.spends.words ≡ 0). inr (omega (arith, none, too)))
+        turn.unspent)
+        lost.unspent;
+    last = λ some_lost. record { before = losses; count = refl; start = between; earlier = lost.tries; turn = turn };
   }
 
   -- It is answered.
@@ -121,6 +138,9 @@ module _ (call : Call) (key losses : ℕ) (old between : PassView) (lost : Loses
       → AnswersTurn serial call key answered between new → AreOneTurn between.made new.made → AnswersCall fast serial call key answered old new
   then_answered fast serial answered new few writes turn one =
       let stands = from_start serial answered.changed new turn.stands in
+      let wide = longer lost.tries.spends.wide turn.spends.wide in
+      let lost_fit : lost.tries.spends.words ≤ turns_cost losses (length wide.0) =
+      omega (arith, lost.tries.spends.bound, turns_cost_rises losses (length lost.tries.spends.wide) (length wide.0) wide.1.first) in
       record {
         losses = losses;
         few = few;
@@ -141,37 +161,34 @@ module _ (call : Call) (key losses : ℕ) (old between : PassView) (lost : Loses
         };
         spent = turn.spent ∙ lost.spent;
         reads = λ unchanged.
-            let none = turn.reads unchanged in
-            let fits = widest-append lost.tries.spends.learned turn.spends.learned in
-            let all = costs_add losses 0 lost.tries.spends.words 0 (widest lost.tries.spends.learned) (widest turn.spends.learned)
-            (widest (turn.spends.learned ++ lost.tries.spends.learned)) fits lost.tries.spends.bound (omega arith) in
-            subst (λ (n : ℕ). lost.tries.spends.words + turn.spends.words ≤ turns_cost n (widest (turn.spends.learned ++ lost.tries.spends.learned)))
-            (add-zero losses) (omega (arith, all, none));
+            let last = (turn.reads unchanged).0 in
+            omega (arith, last, lost_fit, wide.1.second);
+        unfilled = λ unchanged same.
+            let none = ((turn.reads unchanged).1 (omega (arith, same, lost.tries.steps.no_fewer, one.no_fewer))).0 in
+            omega (arith, none, lost_fit);
       }
 
   -- a turn that was refused for want of words, told from the start on
-  out_of_words : (words : ℕ) (new : PassView) → IsOutOfWords words between new
-      → WasSpent (lost.tries.spends.words + words) old new ⊎ OverdrewAfter lost.tries.spends.words words old new
-  out_of_words words new full = ⊎_elim
-      (λ (was : WasSpent words between new). inl (record {
+  out_of_words : (new : PassView) (turn : RefusesTurn call key between new) → WasSpent (lost.tries.spends.words + turn.spends.words) old new
+      ⊎ OverdrewAfter (lost.tries.spends.words + turn.before) turn.last old new
+  out_of_words new turn = ⊎_elim
+      (λ (was : WasSpent turn.spends.words between new). inl (record {
         before = λ (none : old.spent ≡ None). was.before (lost.spent ∙ none);
         still = was.still ∙ lost.spent;
-        none = elim (ℕ_discrete losses 0) [
-          | yes none_lost ↦
-              let bound = subst (λ (n : ℕ). lost.tries.spends.words ≤ turns_cost n (widest lost.tries.spends.learned)) none_lost
-              lost.tries.spends.bound in
-              omega (arith, bound, was.none)
-          | no some_lost ↦ absurd (was.before (lost.spent ∙ lost.unspent some_lost))
-        ];
+        none = ⊎_elim
+            (λ (unspent : old.spent ≡ None). absurd (was.before (lost.spent ∙ unspent)))
+            (λ (none : lost.tries.spends.words ≡ 0).
+            let all : lost.tries.spends.words + turn.spends.words ≡ 0 = omega (arith, none, was.none) in all)
+            lost.unspent;
       }))
-      (λ (over : Overdrew words between new). inr (record {
+      (λ (over : OverdrewAfter turn.before turn.last between new). inr (record {
         at = over.at;
         spent = over.spent;
-        behind = subst (λ (z : RoundFacts × ℕ). z.0.opened + z.1 ≤ over.at)
-            (λ i. (lost.tries.spends.grows.facts i, lost.tries.spends.grows.drawn i)) over.behind;
-        past = subst (λ (facts : RoundFacts). facts.cap < over.at + words) lost.tries.spends.grows.facts over.past;
+        behind = let behind = over.behind in
+            omega (arith, behind, ap (λ (facts : RoundFacts). facts.opened) lost.tries.spends.grows.facts, lost.tries.spends.grows.drawn);
+        past = subst (λ (facts : RoundFacts). facts.cap < over.at + turn.last) lost.tries.spends.grows.facts over.past;
       }))
-      full
+      turn.full
 
   -- It is refused.
   pub then_full : (fast : ℕ) (new : PassView) → losses < fast → RefusesTurn call key between new → AreOneTurn between.made new.made
@@ -185,11 +202,13 @@ module _ (call : Call) (key losses : ℕ) (old between : PassView) (lost : Loses
       others = lost.tries.others;
     };
     own = own_then old between new lost.own turn.own;
-    wanted = turn.wanted;
-    before = lost.tries.spends.words;
-    last = turn.spends.words;
-    words = refl;
-    full = out_of_words turn.spends.words new turn.full;
+    start = between;
+    earlier = lost.tries;
+    turn = turn;
+    before = lost.tries.spends.words + turn.before;
+    last = turn.last;
+    words = omega (arith, turn.words);
+    full = out_of_words new turn;
   }
 
   -- No further turn is made.
@@ -197,8 +216,8 @@ module _ (call : Call) (key losses : ℕ) (old between : PassView) (lost : Loses
   all_lost some_lost = record {
     tries = lost.tries;
     own = lost.own;
-    unspent = lost.unspent some_lost;
+    last = lost.last some_lost;
+    unspent = lost.unspent;
     spent = lost.spent;
-    wanted = lost.wanted some_lost;
     others = lost.tries.others some_lost;
   }

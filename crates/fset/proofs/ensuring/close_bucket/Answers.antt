@@ -1,6 +1,6 @@
-use Rattle.std.proofs.Common.{ℕ, sym, subst, arith}
-use Rattle.fset.specs.Seen.{KnowsRowAt, ReadsRow}
-use Rattle.fset.proofs.laws.Closing.{bucket_closed, frozen_known, may_freeze, source_within}
+use Rattle.std.proofs.Common.{ℕ, subst, arith}
+use Rattle.fset.specs.Seen.{ReadsRow}
+use Rattle.fset.proofs.laws.Closing.{bucket_closed, source_within}
 use Rattle.fset.proofs.ensuring.close_bucket.Goals as goal
 
 -- the bucket lies in the arena

@@ -3,8 +3,18 @@ use Rattle.cells.specs.Exchanges.{SwapsRow}
 use Rattle.step_core.specs.declared.format.TheConstants.{FIRST_KEY}
 use Rattle.cells.specs.Known.{keys_at}
 use Rattle.fset.specs.Content.{loads_to_find}
-use Rattle.fset.proofs.laws.Turning.{answered_by_exchange, answered_by_reading, changed_small, full_turn, is_seen_still, lost_turn, may_exchange, row_small}
+use Rattle.fset.proofs.laws.Turning.{answered_by_exchange, answered_by_reading, changed_small, frozen_turn, full_turn, is_seen_still, lost_turn, may_exchange, nil_turn, row_small}
 use Rattle.fset.proofs.turns.turn.Goals as goal
+
+-- the key's bucket was frozen
+pub returns-in-Frozen-clause-answer : goal.returns-in-Frozen-clause-answer
+returns-in-Frozen-clause-answer c =
+    frozen_turn c.args.call c.args.key c.args.pass.now.view c.seek-sought.new.pass.view c.in-Frozen.ensures.answer c.sound.ensures.view
+
+-- it was nil, and no block to fill it with was to be had
+pub returns-in-Full-clause-answer : goal.returns-in-Full-clause-answer
+returns-in-Full-clause-answer c =
+    nil_turn c.args.call c.args.key c.args.pass.now.view c.seek-sought.new.pass.view c.in-Full.ensures.answer
 
 -- a row has fewer keys than the arena has words
 pub overflow_cast-result : goal.overflow_cast-result
@@ -12,11 +22,11 @@ overflow_cast-result c =
     let v0 = c.args.pass.now.view in
     let v1 = c.seek-sought.new.pass.view in
     let v2 = c.place_among-place.new.pass.view in
-    let sought = c.seek-sought.result in
+    let sought = c.in-Found.sought in
     let place = c.place_among-place in
     let loads = loads_to_find (keys_at v1 sought.row.at) c.args.key in
-    let small = row_small c.args.key c.args.call v0 v1 v2 sought c.seek-sought.ensures.answer loads place.ensures.view
-    c.sound.ensures.view place.result.taken place.ensures.taken c.requires.call.0 in
+    let small = row_small c.args.key c.args.call v0 v1 v2 sought c.in-Found.ensures.answer loads place.ensures.view
+    c.sound-2.ensures.view place.result.taken place.ensures.taken c.requires.call.0 in
     omega (arith, small)
 
 -- the call wouldn't change the content
@@ -25,10 +35,10 @@ returns-then-not-answer-clause-answer c =
     let v0 = c.args.pass.now.view in
     let v1 = c.seek-sought.new.pass.view in
     let v2 = c.place_among-place.new.pass.view in
-    let sought = c.seek-sought.result in
+    let sought = c.in-Found.sought in
     let place = c.place_among-place in
     let loads = loads_to_find (keys_at v1 sought.row.at) c.args.key in
-    answered_by_reading c.args.key c.args.call v0 v1 v2 sought c.seek-sought.ensures.answer loads place.ensures.view c.sound.ensures.view
+    answered_by_reading c.args.key c.args.call v0 v1 v2 sought c.in-Found.ensures.answer loads place.ensures.view c.sound-2.ensures.view
     place.result.taken place.ensures.taken c.requires.call.0 (c.args.pass.now.calls - 1) (sym c.if-not-answer.ensures)
 
 -- the row is still as it was read
@@ -37,10 +47,10 @@ build_at-requires-clause-knows c =
     let v0 = c.args.pass.now.view in
     let v1 = c.seek-sought.new.pass.view in
     let v2 = c.place_among-place.new.pass.view in
-    let sought = c.seek-sought.result in
+    let sought = c.in-Found.sought in
     let place = c.place_among-place in
     let loads = loads_to_find (keys_at v1 sought.row.at) c.args.key in
-    is_seen_still c.args.key c.args.call v0 v1 v2 sought c.seek-sought.ensures.answer loads place.ensures.view c.sound.ensures.view
+    is_seen_still c.args.key c.args.call v0 v1 v2 sought c.in-Found.ensures.answer loads place.ensures.view c.sound-2.ensures.view
     place.result.taken place.ensures.taken c.requires.call.0
 
 -- no block was to be had
@@ -49,10 +59,10 @@ returns-in_default-clause-answer c =
     let v0 = c.args.pass.now.view in
     let v1 = c.seek-sought.new.pass.view in
     let v2 = c.place_among-place.new.pass.view in
-    let sought = c.seek-sought.result in
+    let sought = c.in-Found.sought in
     let place = c.place_among-place in
     let loads = loads_to_find (keys_at v1 sought.row.at) c.args.key in
-    full_turn c.args.key c.args.call v0 v1 v2 sought c.seek-sought.ensures.answer loads place.ensures.view c.sound.ensures.view
+    full_turn c.args.key c.args.call v0 v1 v2 sought c.in-Found.ensures.answer loads place.ensures.view c.sound-2.ensures.view
     place.result.taken place.ensures.taken c.requires.call.0 (sym c.if-not-answer.ensures) c.build_at.new.pass.view c.in_default.ensures.full
 
 -- nor is the new row too wide
@@ -61,12 +71,12 @@ overflow_cast-width c =
     let v0 = c.args.pass.now.view in
     let v1 = c.seek-sought.new.pass.view in
     let v2 = c.place_among-place.new.pass.view in
-    let sought = c.seek-sought.result in
+    let sought = c.in-Found.sought in
     let place = c.place_among-place in
     let loads = loads_to_find (keys_at v1 sought.row.at) c.args.key in
-    let small = changed_small c.args.key c.args.call v0 v1 v2 sought c.seek-sought.ensures.answer loads place.ensures.view
-    c.sound.ensures.view place.result.taken place.ensures.taken c.requires.call.0 (sym c.if-not-answer.ensures) c.in-Ok.block
-    c.build_at.new.pass.view c.in-Ok.ensures.answer c.sound-2.ensures.view in
+    let small = changed_small c.args.key c.args.call v0 v1 v2 sought c.in-Found.ensures.answer loads place.ensures.view
+    c.sound-2.ensures.view place.result.taken place.ensures.taken c.requires.call.0 (sym c.if-not-answer.ensures) c.in-Ok.block
+    c.build_at.new.pass.view c.in-Ok.ensures.answer c.sound-3.ensures.view in
     omega (arith, small, c.len.ensures)
 
 -- the exchange may be made
@@ -75,12 +85,12 @@ swap_row-exchanged-requires-clause-swap c =
     let v0 = c.args.pass.now.view in
     let v1 = c.seek-sought.new.pass.view in
     let v2 = c.place_among-place.new.pass.view in
-    let sought = c.seek-sought.result in
+    let sought = c.in-Found.sought in
     let place = c.place_among-place in
     let loads = loads_to_find (keys_at v1 sought.row.at) c.args.key in
-    may_exchange c.args.key c.args.call v0 v1 v2 sought c.seek-sought.ensures.answer loads place.ensures.view c.sound.ensures.view
+    may_exchange c.args.key c.args.call v0 v1 v2 sought c.in-Found.ensures.answer loads place.ensures.view c.sound-2.ensures.view
     place.result.taken place.ensures.taken c.requires.call.0 (sym c.if-not-answer.ensures) c.in-Ok.block
-    c.build_at.new.pass.view c.in-Ok.ensures.answer c.sound-2.ensures.view c.requires.idle
+    c.build_at.new.pass.view c.in-Ok.ensures.answer c.sound-3.ensures.view c.requires.idle
 
 -- it was won
 pub returns-in-Ok-exchanged-clause-answer : goal.returns-in-Ok-exchanged-clause-answer
@@ -88,15 +98,15 @@ returns-in-Ok-exchanged-clause-answer c =
     let v0 = c.args.pass.now.view in
     let v1 = c.seek-sought.new.pass.view in
     let v2 = c.place_among-place.new.pass.view in
-    let sought = c.seek-sought.result in
+    let sought = c.in-Found.sought in
     let place = c.place_among-place in
     let loads = loads_to_find (keys_at v1 sought.row.at) c.args.key in
-    answered_by_exchange c.args.key c.args.call v0 v1 v2 sought c.seek-sought.ensures.answer loads place.ensures.view c.sound.ensures.view
+    answered_by_exchange c.args.key c.args.call v0 v1 v2 sought c.in-Found.ensures.answer loads place.ensures.view c.sound-2.ensures.view
     place.result.taken place.ensures.taken c.requires.call.0 (sym c.if-not-answer.ensures) c.in-Ok.block
-    c.build_at.new.pass.view c.in-Ok.ensures.answer c.sound-2.ensures.view c.swap_row-exchanged.new.pass.view (c.args.pass.now.calls - 1)
+    c.build_at.new.pass.view c.in-Ok.ensures.answer c.sound-3.ensures.view c.swap_row-exchanged.new.pass.view (c.args.pass.now.calls - 1)
     (subst (λ (calls : ℕ). SwapsRow (calls - 1) sought.word c.in-Ok.block.at c.build_at.new.pass.view c.swap_row-exchanged.new.pass.view)
     (c.build_at.ensures.pass.calls ∙ place.ensures.pass.calls ∙ c.seek-sought.ensures.pass.calls) c.in-Ok-exchanged.ensures.won)
-    (c.len.result - FIRST_KEY) c.sound-3.ensures.view c.requires.idle (omega (arith, c.len.ensures, c.in-Ok.ensures.answer.long))
+    (c.len.result - FIRST_KEY) c.sound-4.ensures.view c.requires.idle (omega (arith, c.len.ensures, c.in-Ok.ensures.answer.long))
 
 -- it was lost
 pub returns-in-Err-clause-answer : goal.returns-in-Err-clause-answer
@@ -104,9 +114,9 @@ returns-in-Err-clause-answer c =
     let v0 = c.args.pass.now.view in
     let v1 = c.seek-sought.new.pass.view in
     let v2 = c.place_among-place.new.pass.view in
-    let sought = c.seek-sought.result in
+    let sought = c.in-Found.sought in
     let place = c.place_among-place in
     let loads = loads_to_find (keys_at v1 sought.row.at) c.args.key in
-    lost_turn c.args.key c.args.call v0 v1 v2 sought c.seek-sought.ensures.answer loads place.ensures.view c.sound.ensures.view
+    lost_turn c.args.key c.args.call v0 v1 v2 sought c.in-Found.ensures.answer loads place.ensures.view c.sound-2.ensures.view
     place.result.taken place.ensures.taken c.requires.call.0 (sym c.if-not-answer.ensures) c.in-Ok.block
-    c.build_at.new.pass.view c.in-Ok.ensures.answer c.sound-2.ensures.view c.swap_row-exchanged.new.pass.view c.in-Err.ensures.lost.2
+    c.build_at.new.pass.view c.in-Ok.ensures.answer c.sound-3.ensures.view c.swap_row-exchanged.new.pass.view c.in-Err.ensures.lost.2

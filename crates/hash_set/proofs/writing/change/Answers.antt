@@ -1,8 +1,9 @@
-use Rattle.std.proofs.Common.{rules, ℕ, ◌-◌, ◌<◌, subst}
+use Rattle.std.proofs.Common.{rules, ◌≡◌, ◌≢◌, ℕ, ◌-◌, ◌<◌, subst}
 use Rattle.step_core.specs.declared.layout.Plan.{Plan}
 use Rattle.cells.specs.Tokens.{IsSamePass}
 use Rattle.fset.specs.Turns.{AnswersTurn}
-use Rattle.hash_set.proofs.laws.Trying.{none_lost, then_answered, then_full, then_lost}
+use Rattle.hash_set.specs.Calls.{LosesCall}
+use Rattle.hash_set.proofs.laws.Trying.{all_lost, none_lost, then_answered, then_full, then_lost}
 use Rattle.hash_set.proofs.writing.change.Goals as goal
 
 -- no turn was made yet
@@ -40,3 +41,14 @@ loop-losses-preserved c =
       lost = then_lost c.args.call c.args.key c.loop-losses.losses c.args.pass.now.view c.loop-losses.pass.view
           c.loop-losses.invariant.lost c.turn.new.pass.view c.in-Lost.ensures.answer c.in-Lost.ensures.steps;
     }
+
+-- all its turns were lost
+pub returns-clause-answer : goal.returns-clause-answer
+returns-clause-answer c =
+    let old = c.args.pass.now.view in
+    let between = c.loop-losses.pass.view in
+    let fast : ℕ = c.args.round.now.plan.fast in
+    let all : c.loop-losses.losses ≡ fast = search rules in
+    let some : c.loop-losses.losses ≢ 0 = search rules in
+    subst (λ (turns : ℕ). LosesCall turns c.args.call c.args.key old between) all
+    (all_lost c.args.call c.args.key c.loop-losses.losses old between c.loop-losses.invariant.lost some)

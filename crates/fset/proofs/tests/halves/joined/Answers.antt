@@ -4,6 +4,6 @@ use Rattle.fset.proofs.tests.halves.joined.Goals as goal
 -- the first row is still as it was read
 pub build_joined-requires-clause-low : goal.build_joined-requires-clause-low
 build_joined-requires-clause-low c =
-    let grows = c.seek-second.ensures.answer.under_way.grows in
-    seen_stays c.seek-second.ensures.answer.under_way.learned grows.fixed.0 c.seek-first.new.pass.view c.seek-second.new.pass.view
-    c.seek-first.result.row c.sound.ensures.view grows.known grows.fixed.1 c.seek-first.ensures.answer.under_way.seen
+    let spends = c.in-Found-seek.ensures.answer.under_way.spends in
+    seen_stays spends.learned spends.grows.fixed.0 c.seek.new.pass.view c.seek-2.new.pass.view
+    c.in-Found.first.row c.sound.ensures.view spends.grows.known spends.grows.fixed.1 c.in-Found.ensures.answer.under_way.seen

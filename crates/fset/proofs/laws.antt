@@ -16,6 +16,7 @@ pub mod Looking
 pub mod Ensuring
 pub mod Seeking
 pub mod Meeting
+pub mod Visiting
 pub mod LookedUp
 pub mod Sought
 pub mod Turning

@@ -11,6 +11,7 @@ use Rattle.fset.specs.declared.outcomes.Answered.{Answered}
 use Rattle.fset.specs.declared.outcomes.Outcome.{Outcome}
 use Rattle.fset.specs.declared.outcomes.Outcome.TheVariants.{Done, Busy, Full}
 use Rattle.fset.specs.Frames.{Grows, KeepsOwn, Spends, row_cost, turns_cost, widest}
+use Rattle.fset.specs.Looking.{LoadsEachOnce}
 use Rattle.fset.specs.Rows.{OverdrewAfter, WasSpent}
 use Rattle.fset.specs.Standing.{AnswerStands, TriedStands}
 use Rattle.fset.specs.Turns.{IsWidth, LosesTurn, RefusesTurn}
@@ -22,10 +23,10 @@ pub record BeginsCall (old new : PassValue) : Type 0 where
   pub facts : new.view.facts ≡ old.view.facts
   pub calls : new.calls ≡ old.calls + 1
 
--- A call loaded the head, one bucket or two, and at most all words of the row there: it drew nothing and
--- has no entry. It lost one turn at most, that which was open. Its front isn't shorter than the one that
--- it had at the load of the head.
-pub record OnlyLooks (old new : PassView) : Type 0 where
+-- A call loaded the head, the key's bucket there and, where that is nil, its bucket in the generation
+-- before, and at most all words of one row: it drew nothing and has no entry. It lost one turn at most,
+-- that which was open. Its front isn't shorter than the one that it had at the load of the head.
+pub record OnlyLooks (key : ℕ) (old new : PassView) : Type 0 where
   pub learned : List Known
   pub losses : ℕ
   pub few_losses : losses ≤ 1
@@ -38,8 +39,9 @@ pub record OnlyLooks (old new : PassView) : Type 0 where
   pub hands : new.hands ≡ old.hands
   pub buckets : ℕ
   pub few_buckets : (buckets ≡ 1) ⊎ (buckets ≡ 2)
+  pub each_once : LoadsEachOnce head.at key old new
   pub loads : ℕ
-  pub few : loads ≤ 5 + widest learned
+  pub few : loads ≤ 2 * buckets + 1 + widest learned
   pub made : new.made ≡ record old.made {
     head_loads = old.made.head_loads + 1;
     sealed_loads = old.made.sealed_loads + loads;

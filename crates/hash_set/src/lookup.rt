@@ -20,7 +20,7 @@ pub fn contains(round: &Round, pass: &mut Pass, key: u64) -> bool
     requires few { pass.old.calls < max_calls }
     ensures pass { BeginsCall pass.old pass.new }
     ensures answer { AnswerStands pass.old.calls Contains key result pass.old.view pass.new.view }
-    ensures looks { OnlyLooks pass.old.view pass.new.view }
+    ensures looks { OnlyLooks key pass.old.view pass.new.view }
 {
     round.begin_call(pass);
     let row = look_up(round, pass, key);

@@ -15,7 +15,7 @@ use Rattle.cells.specs.Sound.{IsSound}
 use Rattle.cells.specs.Steps.{LoadsHead}
 use Rattle.fset.specs.Content.{front_has, seen_content}
 use Rattle.fset.specs.Frames.{Grows}
-use Rattle.fset.specs.Looking.{LooksUp}
+use Rattle.fset.specs.Looking.{LoadsEachOnce, LooksUp}
 use Rattle.fset.specs.Seen.{KnowsRowAt, ReadsRow}
 use Rattle.fset.specs.declared.seen.Seen.{Seen}
 use Rattle.fset.proofs.laws.Frames.{grows_then, latest_row-append, own_then, then_loses}
@@ -33,7 +33,7 @@ pub met_known : (key at : ℕ) (old new : PassView) → Met key old at new → K
 met_known key at old new met = subst (KnowsRow new at) (sym met.is_row) met.known
 
 module _ (key head at : ℕ) (v0 v1 v2 v3 : PassView) (seen : Seen) (heads : LoadsHead v0 head v1) (met : Met key v1 at v2)
-    (reads : ReadsRow at v2 seen v3) (sound : IsSound v3) where
+    (reads : ReadsRow at v2 seen v3) (sound : IsSound v3) (once : LoadsEachOnce head key v0 v3) where
   -- so far the row has no operation
   plain : seen.op ≡ 0
   plain = reads.agrees.op ∙ sound.no_op seen.at (row_at v3.known seen.at) reads.agrees.known
@@ -80,10 +80,11 @@ module _ (key head at : ℕ) (v0 v1 v2 v3 : PassView) (seen : Seen) (heads : Loa
         grown.front;
     spent = ap (λ (view : PassView). view.spent) reads.reads.only ∙ met.spent ∙ ap (λ (view : PassView). view.spent) heads.view;
     hands = ap (λ (view : PassView). view.hands) reads.reads.only ∙ met.hands ∙ ap (λ (view : PassView). view.hands) heads.view;
-    sealed = met.sealed + 2;
-    few_sealed = omega (arith, met.few_sealed);
     buckets = met.buckets;
     few_buckets = met.few_buckets;
+    each_once = once;
+    sealed = met.sealed + 2;
+    few_sealed = let few = met.few_sealed in omega (arith, few);
     made = reads.reads.made
         ∙ ap (λ (made : StepCounts). record made { sealed_loads = made.sealed_loads + 2 }) (met.made
         ∙ ap (λ (made : StepCounts). record made {

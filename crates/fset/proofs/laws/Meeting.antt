@@ -1,5 +1,5 @@
 -- A row that was met in the head, or behind a nil bucket in the generation before, is known and marked for the key.
-use Rattle.std.proofs.Common.{◌≡◌, ◌⊎◌, inl, inr, ⊎_elim, ℕ, ◌+◌, ◌%◌, ◌≤◌, List, [], ◌∷◌, ◌++◌, Some, refl, sym, ap, ◌∙◌, subst, add-zero, arith}
+use Rattle.std.proofs.Common.{◌≡◌, ◌⊎◌, inl, inr, ⊎_elim, ℕ, ◌+◌, ◌*◌, ◌%◌, ◌≤◌, List, [], ◌∷◌, ◌++◌, Some, refl, sym, ap, ◌∙◌, subst, add-zero, arith}
 use Rattle.step_core.specs.Buckets.{key_bucket}
 use Rattle.step_core.specs.Format.{IsFrozen, IsMutable, IsNil, row_address}
 use Rattle.step_core.specs.declared.published.Published.TheVariants.{Generation, Row}
@@ -39,10 +39,10 @@ pub record Met (key : ℕ) (old : PassView) (at : ℕ) (new : PassView) : Type 0
   pub heads : new.heads ≡ old.heads
   pub spent : new.spent ≡ old.spent
   pub hands : new.hands ≡ old.hands
-  pub sealed : ℕ
-  pub few_sealed : sealed ≤ 3
   pub buckets : ℕ
   pub few_buckets : (buckets ≡ 1) ⊎ (buckets ≡ 2)
+  pub sealed : ℕ
+  pub few_sealed : sealed + 1 ≡ 2 * buckets
   pub made : new.made ≡ record old.made {
     sealed_loads = old.made.sealed_loads + sealed;
     bucket_loads = old.made.bucket_loads + buckets;

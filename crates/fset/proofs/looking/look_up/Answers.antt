@@ -1,6 +1,7 @@
 use Rattle.cells.proofs.laws.HeadLoads.{load_head_knows}
 use Rattle.fset.proofs.laws.LookedUp.{head_now, looked_up, met_known}
 use Rattle.fset.proofs.laws.Meeting.{met_row}
+use Rattle.fset.proofs.laws.Visiting.{met_once, once_read}
 use Rattle.fset.proofs.looking.look_up.Goals as goal
 
 -- the head is known, from the front of now
@@ -32,3 +33,6 @@ returns-clause-answer c =
     (met_row c.load_head-head.result c.args.key c.meet_row-at.result v1 v2 c.sound.ensures.view
     (head_now c.args.pass.now.view c.load_head-head.result v1 c.load_head-head.ensures.answer) c.meet_row-at.ensures.answer)
     c.read_row-seen.ensures.answer c.sound-3.ensures.view
+    (once_read c.load_head-head.result c.args.key c.meet_row-at.result c.args.pass.now.view v1 v2 c.read_row-seen.new.pass.view c.read_row-seen.result
+    c.load_head-head.ensures.answer c.read_row-seen.ensures.answer
+    (met_once c.load_head-head.result c.args.key c.meet_row-at.result v1 v2 c.sound.ensures.view c.sound-2.ensures.view c.meet_row-at.ensures.answer))

@@ -137,6 +137,8 @@ pub record EnsuresFilled (head bucket : ℕ) (old new : PassView) : Type 0 where
   pub unspent : (old.spent ≡ None) ⊎ (spends.words ≡ 0)
   pub spent : new.spent ≡ old.spent
   pub steps : OnlyFills old.made new.made
+  -- an exchange was made, but where there is none before
+  pub exchanged : (new.made.fills ≡ old.made.fills + 1) ⊎ (generation.predecessor ≡ 0)
   -- without an exchange nothing was drawn
   pub unfilled : new.made.fills ≡ old.made.fills
       → (spends.words ≡ 0) × (new.hands ≡ old.hands)

@@ -1,5 +1,5 @@
 -- The bucket of a key, as the open turn of a pass loaded it, and its row.
-use Rattle.std.specs.Prelude.{◌≡◌, ℕ, ◌+◌, ◌≤◌, ◌⊎◌, ◌∷◌, Contains, Some, None}
+use Rattle.std.specs.Prelude.{◌≡◌, ℕ, ◌+◌, ◌*◌, ◌≤◌, ◌⊎◌, ◌∷◌, Contains, Some, None}
 use Rattle.step_core.specs.Buckets.{key_bucket}
 use Rattle.step_core.specs.Content.{InClass}
 use Rattle.step_core.specs.Format.{IsNil, IsMutable, IsFrozen, row_address}
@@ -48,7 +48,7 @@ pub record HasKeyBucket (view : PassView) (key place word : ℕ) : Type 0 where
   pub mutable : IsMutable word
 
 -- of the steps that are counted these were made to find the row of a key: one load of the head, one of
--- a bucket or two, and where that was nil those that fill it
+-- a bucket and one more for an exchange that fills it, and where it was nil those that fill it
 pub record AreOneSeek (before after : StepCounts) : Type 0 where
   pub only : after ≡ record before {
     head_loads = before.head_loads + 1;
@@ -60,7 +60,7 @@ pub record AreOneSeek (before after : StepCounts) : Type 0 where
     freezes = after.freezes;
   }
   pub some_bucket : before.bucket_loads + 1 ≤ after.bucket_loads
-  pub buckets : after.bucket_loads ≤ before.bucket_loads + 2
+  pub buckets : after.bucket_loads + before.fills ≤ before.bucket_loads + 1 + after.fills
   pub draws : after.draws ≤ before.draws + 1
   pub no_fewer : before.fills ≤ after.fills
   pub fills : after.fills ≤ before.fills + 1
@@ -70,6 +70,11 @@ pub record AreOneSeek (before after : StepCounts) : Type 0 where
 abbrev pub DrawsToFill : ℕ → PassView → PassView → Type 0
 DrawsToFill words old new = new.made.fills ≡ old.made.fills
     → (words ≡ 0) × (new.hands ≡ old.hands)
+
+-- draws and freezes were made to fill a bucket alone: for each exchange at most one draw and two freezes
+pub record OnlyForFills (before after : StepCounts) : Type 0 where
+  pub draws : after.draws + before.fills ≤ before.draws + after.fills
+  pub freezes : after.freezes + 2 * before.fills ≤ before.freezes + 2 * after.fills
 
 -- the bucket isn't frozen: the turn is open, and its row is marked for the key
 pub record GoesOn (key : ℕ) (bucket : LoadedBucket) (losses : ℕ) (new : PassView) : Type 0 where
@@ -93,6 +98,7 @@ pub record LoadsKeyBucket (key : ℕ) (old : PassView) (bucket : LoadedBucket) (
   pub frozen : IsFrozen bucket.word → (losses ≡ 1) × (new.turn ≡ None)
   pub unspent : (old.spent ≡ None) ⊎ (spends.words ≡ 0)
   pub unfilled : DrawsToFill spends.words old new
+  pub for_fills : OnlyForFills old.made new.made
   pub spent : new.spent ≡ old.spent
   pub steps : AreOneSeek old.made new.made
 
@@ -117,6 +123,7 @@ pub record Seeks (key : ℕ) (old : PassView) (sought : Sought) (new : PassView)
   pub agrees : Agrees new sought.row key
   pub unspent : (old.spent ≡ None) ⊎ (under_way.spends.words ≡ 0)
   pub unfilled : DrawsToFill under_way.spends.words old new
+  pub for_fills : OnlyForFills old.made new.made
   pub spent : new.spent ≡ old.spent
   pub steps : AreOneSeek old.made new.made
 
@@ -127,6 +134,7 @@ pub record FindsFrozen (old new : PassView) : Type 0 where
   pub closed : new.turn ≡ None
   pub unspent : (old.spent ≡ None) ⊎ (spends.words ≡ 0)
   pub unfilled : DrawsToFill spends.words old new
+  pub for_fills : OnlyForFills old.made new.made
   pub spent : new.spent ≡ old.spent
   pub steps : AreOneSeek old.made new.made
 

@@ -42,6 +42,12 @@ pub record IsWidth (call : Call) (key width : ℕ) (learned : List Known) (new :
   pub after : is_in (content_keys new row) key ≡ leaves_key call
   pub bound : width ≤ most_keys new
 
+-- where no bucket was filled, none was frozen, and these words are at most those of one row, with a key
+-- more than the widest
+abbrev pub DrawsOneRow : ℕ → ℕ → PassView → PassView → Type 0
+DrawsOneRow words width old new = new.made.fills ≡ old.made.fills
+    → (words ≤ row_cost (width + 1)) × (new.made.freezes ≤ old.made.freezes)
+
 -- It was answered. Where it changed nothing, it drew only to fill the bucket.
 pub record AnswersTurn (serial : ℕ) (call : Call) (key : ℕ) (answered : Answered)
     (old new : PassView) : Type 0 where
@@ -49,6 +55,7 @@ pub record AnswersTurn (serial : ℕ) (call : Call) (key : ℕ) (answered : Answ
   pub stands : TriedStands serial call key answered.changed old new
   pub width : IsWidth call key answered.width spends.learned new
   pub spent : new.spent ≡ old.spent
+  pub unfilled : DrawsOneRow spends.words (length spends.wide) old new
   pub reads : answered.changed ≡ false → spends.words ≤ row_cost (length spends.wide)
       × DrawsToFill spends.words old new
 
@@ -68,6 +75,7 @@ pub record LosesTurn (call : Call) (key : ℕ) (old new : PassView) : Type 0 whe
   pub own : KeepsOwn old new
   pub cause : LosesExchange call key old new ⊎ FindsFrozen old new
   pub unspent : (old.spent ≡ None) ⊎ (spends.words ≡ 0)
+  pub unfilled : DrawsOneRow spends.words (length spends.wide) old new
   pub spent : new.spent ≡ old.spent
   pub others : old.facts.seats ≢ 1
 
@@ -91,13 +99,13 @@ EndsTurn serial call key (Done answered) old new = AnswersTurn serial call key a
 EndsTurn serial call key Lost old new = LosesTurn call key old new
 EndsTurn serial call key Full old new = RefusesTurn call key old new
 
--- the steps of one turn: one load of the head, one of a bucket or two, at most two draws and one
--- exchange, and to fill a bucket at most two freezes and one exchange
+-- the steps of one turn: one load of the head, one of a bucket, at most one draw and one exchange, and
+-- to fill a bucket at most two freezes, one draw, one exchange and one more load of the bucket
 pub record AreOneTurn (before after : StepCounts) : Type 0 where
   pub heads : after.head_loads ≡ before.head_loads + 1
   pub some_bucket : before.bucket_loads + 1 ≤ after.bucket_loads
-  pub buckets : after.bucket_loads ≤ before.bucket_loads + 2
-  pub draws : after.draws ≤ before.draws + 2
+  pub buckets : after.bucket_loads + before.fills ≤ before.bucket_loads + 1 + after.fills
+  pub draws : after.draws + before.fills ≤ before.draws + 1 + after.fills
   pub swaps : after.row_swaps ≤ before.row_swaps + 1
   pub no_fewer : before.fills ≤ after.fills
   pub fills : after.fills ≤ before.fills + 1

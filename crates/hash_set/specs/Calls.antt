@@ -48,13 +48,14 @@ pub record OnlyLooks (key : ℕ) (old new : PassView) : Type 0 where
     bucket_loads = old.made.bucket_loads + buckets;
   }
 
--- the steps of so many turns: for each one load of the head, one of a bucket or two, at most two draws
--- and one exchange, and to fill a bucket at most two freezes and one exchange
+-- the steps of so many turns: for each one load of the head, one of a bucket, at most one draw and one
+-- exchange, and to fill a bucket at most two freezes, one draw, one exchange and one more load of the
+-- bucket
 pub record AreTurns (turns : ℕ) (before after : StepCounts) : Type 0 where
   pub heads : after.head_loads ≡ before.head_loads + turns
   pub some_buckets : before.bucket_loads + turns ≤ after.bucket_loads
-  pub buckets : after.bucket_loads ≤ before.bucket_loads + 2 * turns
-  pub draws : after.draws ≤ before.draws + 2 * turns
+  pub buckets : after.bucket_loads + before.fills ≤ before.bucket_loads + turns + after.fills
+  pub draws : after.draws + before.fills ≤ before.draws + turns + after.fills
   pub swaps : after.row_swaps ≤ before.row_swaps + turns
   pub no_fewer : before.fills ≤ after.fills
   pub fills : after.fills ≤ before.fills + turns

@@ -149,6 +149,7 @@ module _ (head bucket : ℕ) (v0 : PassView) (generation : GenerationBlock)
       fills = omega (arith, ap (λ (made : StepCounts). made.fills) named_made);
       freezes = omega (arith, ap (λ (made : StepCounts). made.freezes) named_made);
     };
+    exchanged = inr (sym (named_is head generation v1 predecessor v2 known_one second) ∙ none);
     unfilled = λ same.
         (refl, ap (λ (view : PassView). view.hands) second.view ∙ ap (λ (view : PassView). view.hands) still);
     first = λ zero. subst (λ (made : StepCounts). made ≡ record v0.made { sealed_loads = made.sealed_loads }) (sym named_made) refl;
@@ -281,6 +282,12 @@ module _ (head bucket : ℕ) (v0 : PassView) (generation : GenerationBlock)
               ap (λ (made : StepCounts). made.freezes) ends.made,
             );
           };
+          exchanged = inl (omega (
+            arith,
+            builds.unfilled,
+            ap (λ (made : StepCounts). made.fills) read_made,
+            ap (λ (made : StepCounts). made.fills) ends.made,
+          ));
           unfilled = λ same. absurd (omega (
             arith,
             same,

@@ -23,7 +23,7 @@ use Rattle.cells.proofs.laws.HeadLoads.{load_head_turn}
 use Rattle.cells.proofs.laws.Known.{knows_more, row_at-first}
 use Rattle.fset.specs.Ensuring.{EnsuresFilled, KnowsBucketAt, OnlyFills, RefusesFilling}
 use Rattle.fset.specs.Frames.{Grows, KeepsOwn, Spends, filling_cost, row_cost}
-use Rattle.fset.specs.Seeking.{AreOneSeek, DrawsToFill, FindsNil, GoesOn, KnowsGenerationAt, LoadsBucketOf, LoadsKeyBucket}
+use Rattle.fset.specs.Seeking.{AreOneSeek, DrawsToFill, FindsNil, GoesOn, KnowsGenerationAt, LoadsBucketOf, LoadsKeyBucket, OnlyForFills}
 use Rattle.fset.specs.declared.seeking.LoadedBucket.{LoadedBucket}
 use Rattle.fset.proofs.laws.Filling.{refused_from}
 use Rattle.fset.proofs.laws.Frames.{grows_then, keys_of-none, own_then, reads_grow, reads_own, spends_after, spends_lost, then_loses}
@@ -49,7 +49,8 @@ pub record StartsTurn (head : ℕ) (old new : PassView) : Type 0 where
     freezes = new.made.freezes;
   }
   pub some_bucket : old.made.bucket_loads ≤ new.made.bucket_loads
-  pub buckets : new.made.bucket_loads ≤ old.made.bucket_loads + 1
+  pub buckets : new.made.bucket_loads + old.made.fills ≤ old.made.bucket_loads + new.made.fills
+  pub for_fills : OnlyForFills old.made new.made
   pub draws : new.made.draws ≤ old.made.draws + 1
   pub no_fewer : old.made.fills ≤ new.made.fills
   pub fills : new.made.fills ≤ old.made.fills + 1
@@ -85,7 +86,11 @@ starts_at_head head old new heads =
         freezes = made.freezes;
       }) (sym made) refl;
       some_bucket = omega (arith, ap (λ (made : StepCounts). made.bucket_loads) made);
-      buckets = omega (arith, ap (λ (made : StepCounts). made.bucket_loads) made);
+      buckets = omega (arith, ap (λ (made : StepCounts). made.bucket_loads) made, ap (λ (made : StepCounts). made.fills) made);
+      for_fills = record {
+        draws = omega (arith, ap (λ (made : StepCounts). made.draws) made, ap (λ (made : StepCounts). made.fills) made);
+        freezes = omega (arith, ap (λ (made : StepCounts). made.freezes) made, ap (λ (made : StepCounts). made.fills) made);
+      };
       draws = omega (arith, ap (λ (made : StepCounts). made.draws) made);
       no_fewer = omega (arith, ap (λ (made : StepCounts). made.fills) made);
       fills = omega (arith, ap (λ (made : StepCounts). made.fills) made);
@@ -199,7 +204,7 @@ module _ (head key : ℕ) (v0 v1 v2 : PassView) (nil : LoadedBucket) (heads : Lo
         steps = record {
           only = filled_steps v3.made refuses.steps;
           some_bucket = omega (arith, buckets, before);
-          buckets = omega (arith, buckets, before);
+          buckets = omega (arith, buckets, before, refuses.unfilled, ap (λ (made : StepCounts). made.fills) nil_made);
           draws = omega (arith, refuses.steps.draws, ap (λ (made : StepCounts). made.draws) nil_made);
           no_fewer = omega (arith, refuses.steps.no_fewer, ap (λ (made : StepCounts). made.fills) nil_made);
           fills = omega (arith, refuses.steps.fills, ap (λ (made : StepCounts). made.fills) nil_made);
@@ -214,6 +219,19 @@ module _ (head key : ℕ) (v0 v1 v2 : PassView) (nil : LoadedBucket) (heads : Lo
     -- or it was filled, and the head may be loaded from again.
     pub knows_head_still : KnowsGenerationAt v3 head
     knows_head_still = (finds.generation, still_known)
+
+    -- an exchange was made, since a bucket of a generation without one before isn't nil
+    one_fill : v3.made.fills ≡ v2.made.fills + 1
+    one_fill = ⊎_elim
+        (λ (one : v3.made.fills ≡ v2.made.fills + 1). one)
+        (λ (none : ensured.generation.predecessor ≡ 0).
+        let same : Generation finds.generation ≡ Generation ensured.generation =
+        sound.one head (Generation finds.generation) (Generation ensured.generation) finds.is_word.known
+        (subst (λ (known : List Known). Contains known (known_block head (Generation ensured.generation))) same_known ensured.known) in
+        let generation : finds.generation ≡ ensured.generation = cc in
+        absurd (finds.loads.filled head number finds.generation finds.is_word
+        (inr (ap (λ (generation : GenerationBlock). generation.predecessor) generation ∙ none)) is_nil))
+        ensured.exchanged
 
     pub starts_by_filling : StartsTurn head v0 v3
     starts_by_filling =
@@ -237,7 +255,23 @@ module _ (head key : ℕ) (v0 v1 v2 : PassView) (nil : LoadedBucket) (heads : Lo
           spent = ensured.spent ∙ nil_spent;
           only = filled_steps v3.made ensured.steps;
           some_bucket = omega (arith, buckets, before);
-          buckets = omega (arith, buckets, before);
+          buckets = omega (arith, buckets, before, one_fill, ap (λ (made : StepCounts). made.fills) nil_made);
+          for_fills = record {
+            draws = omega (
+              arith,
+              ensured.steps.draws,
+              one_fill,
+              ap (λ (made : StepCounts). made.draws) nil_made,
+              ap (λ (made : StepCounts). made.fills) nil_made,
+            );
+            freezes = omega (
+              arith,
+              ensured.steps.freezes,
+              one_fill,
+              ap (λ (made : StepCounts). made.freezes) nil_made,
+              ap (λ (made : StepCounts). made.fills) nil_made,
+            );
+          };
           draws = omega (arith, ensured.steps.draws, ap (λ (made : StepCounts). made.draws) nil_made);
           no_fewer = omega (arith, ensured.steps.no_fewer, ap (λ (made : StepCounts). made.fills) nil_made);
           fills = omega (arith, ensured.steps.fills, ap (λ (made : StepCounts). made.fills) nil_made);
@@ -356,7 +390,7 @@ module _ (head key : ℕ) (v0 m n : PassView) (bucket : LoadedBucket) (start : S
           bucket_loads = m.made.bucket_loads + 1;
         }) start.only);
         some_bucket = omega (arith, start.some_bucket, buckets);
-        buckets = omega (arith, start.buckets, buckets);
+        buckets = omega (arith, start.buckets, buckets, ap (λ (made : StepCounts). made.fills) made);
         draws = omega (arith, start.draws, ap (λ (made : StepCounts). made.draws) made);
         no_fewer = omega (arith, start.no_fewer, ap (λ (made : StepCounts). made.fills) made);
         fills = omega (arith, start.fills, ap (λ (made : StepCounts). made.fills) made);
@@ -382,6 +416,12 @@ module _ (head key : ℕ) (v0 m n : PassView) (bucket : LoadedBucket) (start : S
         unfilled = λ same.
             let none = start.unfilled (sym (ap (λ (made : StepCounts). made.fills) made) ∙ same) in
             (none.0, ap (λ (view : PassView). view.hands) loads.view ∙ none.1);
+        for_fills = record {
+          draws = let draws = start.for_fills.draws in
+              omega (arith, draws, ap (λ (made : StepCounts). made.draws) made, ap (λ (made : StepCounts). made.fills) made);
+          freezes = let freezes = start.for_fills.freezes in
+              omega (arith, freezes, ap (λ (made : StepCounts). made.freezes) made, ap (λ (made : StepCounts). made.fills) made);
+        };
         spent = ap (λ (view : PassView). view.spent) loads.view ∙ start.spent;
         steps = seek_steps;
       }

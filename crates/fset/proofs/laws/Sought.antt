@@ -77,6 +77,7 @@ finds_frozen key old bucket new loads frozen =
       closed = lost.1;
       unspent = loads.unspent;
       unfilled = loads.unfilled;
+      for_fills = loads.for_fills;
       spent = loads.spent;
       steps = loads.steps;
     }
@@ -154,7 +155,12 @@ module _ (key : ℕ) (v0 v1 v2 : PassView) (bucket : LoadedBucket) (seen : Seen)
       freezes = made.freezes;
     }) (sym reads.reads.made) (ap (λ (made : StepCounts). record made { sealed_loads = v1.made.sealed_loads + 2 }) loads.steps.only);
     some_bucket = omega (arith, loads.steps.some_bucket, ap (λ (made : StepCounts). made.bucket_loads) reads.reads.made);
-    buckets = omega (arith, loads.steps.buckets, ap (λ (made : StepCounts). made.bucket_loads) reads.reads.made);
+    buckets = omega (
+      arith,
+      loads.steps.buckets,
+      ap (λ (made : StepCounts). made.bucket_loads) reads.reads.made,
+      ap (λ (made : StepCounts). made.fills) reads.reads.made,
+    );
     draws = omega (arith, loads.steps.draws, ap (λ (made : StepCounts). made.draws) reads.reads.made);
     no_fewer = omega (arith, loads.steps.no_fewer, ap (λ (made : StepCounts). made.fills) reads.reads.made);
     fills = omega (arith, loads.steps.fills, ap (λ (made : StepCounts). made.fills) reads.reads.made);
@@ -170,6 +176,20 @@ module _ (key : ℕ) (v0 v1 v2 : PassView) (bucket : LoadedBucket) (seen : Seen)
     unfilled = λ same.
         let none = loads.unfilled (sym (ap (λ (made : StepCounts). made.fills) reads.reads.made) ∙ same) in
         (none.0, ap (λ (view : PassView). view.hands) reads.reads.only ∙ none.1);
+    for_fills = record {
+      draws = omega (
+        arith,
+        loads.for_fills.draws,
+        ap (λ (made : StepCounts). made.draws) reads.reads.made,
+        ap (λ (made : StepCounts). made.fills) reads.reads.made,
+      );
+      freezes = omega (
+        arith,
+        loads.for_fills.freezes,
+        ap (λ (made : StepCounts). made.freezes) reads.reads.made,
+        ap (λ (made : StepCounts). made.fills) reads.reads.made,
+      );
+    };
     spent = ap (λ (view : PassView). view.spent) reads.reads.only ∙ loads.spent;
     steps = read_steps;
   }

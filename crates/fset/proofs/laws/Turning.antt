@@ -35,8 +35,8 @@ use Rattle.fset.specs.Content.{front_has, seen_content}
 use Rattle.fset.specs.Frames.{AreKeysOf, Grows, KeepsOwn, Spends, filling_cost, row_cost, turns_cost}
 use Rattle.fset.specs.Rows.{Builds, Overdrew, RefusesRow, WasSpent}
 use Rattle.fset.specs.Seen.{IsSeen}
-use Rattle.fset.specs.Seeking.{DrawsToFill, FindsFrozen, FindsNil, IsUnderWay, Seeks}
-use Rattle.fset.specs.Turns.{AnswersTurn, LosesTurn, RefusesTurn, WouldChange, leaves_key, most_keys}
+use Rattle.fset.specs.Seeking.{DrawsToFill, FindsFrozen, FindsNil, IsUnderWay, OnlyForFills, Seeks}
+use Rattle.fset.specs.Turns.{AnswersTurn, DrawsOneRow, LosesTurn, RefusesTurn, WouldChange, leaves_key, most_keys}
 use Rattle.fset.specs.declared.seeking.Sought.{Sought}
 use Rattle.fset.proofs.laws.Frames.{IsLonger, behind_self, draws_grow, draws_own, grows_then, keys_of-row, latest-there, longer, own_then, reads_grow, reads_own, spends_before, spends_lost, spends_more}
 use Rattle.fset.proofs.laws.Built.{row_room}
@@ -121,6 +121,10 @@ won_grown serial old at view new won =
 row_in_turn : (width : ℕ) → row_cost width ≤ turns_cost 1 width
 row_in_turn width = omega arith
 
+-- where no bucket was filled, none was frozen
+none_frozen : (old new : PassView) → OnlyForFills old.made new.made → new.made.fills ≡ old.made.fills → new.made.freezes ≤ old.made.freezes
+none_frozen old new fills same = let freezes = fills.freezes in omega (arith, freezes, same)
+
 -- A turn is lost where its bucket was frozen: so it has other passes in its round,
 pub frozen_turn : (call : Call) (key : ℕ) (old new : PassView) → FindsFrozen old new → IsSound new → LosesTurn call key old new
 frozen_turn call key old new frozen sound = record {
@@ -128,6 +132,10 @@ frozen_turn call key old new frozen sound = record {
   own = frozen.own;
   cause = inr frozen;
   unspent = frozen.unspent;
+  unfilled = λ same. (
+    let none = (frozen.unfilled same).0 in omega (arith, none),
+    none_frozen old new frozen.for_fills same,
+  );
   spent = frozen.spent;
   others = λ alone.
       let none = sound.lone (ap (λ (facts : RoundFacts). facts.seats) frozen.spends.grows.facts ∙ alone) in
@@ -215,6 +223,12 @@ module _ (key : ℕ) (call : Call) (v0 v1 v2 : PassView) (sought : Sought) (seek
       let none = seeks.unfilled (sym (ap (λ (view : PassView). view.made.fills) same) ∙ fills) in
       (omega (arith, none.0), ap (λ (view : PassView). view.hands) same ∙ none.1)
 
+  -- nor was one frozen
+  unfrozen : v2.made.fills ≡ v0.made.fills → v2.made.freezes ≤ v0.made.freezes
+  unfrozen fills =
+      let none = none_frozen v0 v1 seeks.for_fills (sym (ap (λ (view : PassView). view.made.fills) same) ∙ fills) in
+      omega (arith, none, ap (λ (view : PassView). view.made.freezes) same)
+
   -- the row agrees with the set after the front
   content : is_in keys key ≡ front_has v2 key
   content =
@@ -233,6 +247,7 @@ module _ (key : ℕ) (call : Call) (v0 v1 v2 : PassView) (sought : Sought) (seek
       content_keys-plain v2 way.row (sym (ap (λ (row : RowBlock). row.op) way.is_row) ∙ plain) ∙ sym (ap (λ (row : RowBlock). row.keys) way.is_row) in
       record {
         spends = spends_more row_cost (turns_cost 1) 0 v0 v2 row_in_turn spends;
+        unfilled = λ fills. (let none = (unfilled fills).0 in omega (arith, none), unfrozen fills);
         reads = λ unchanged. (spends.bound, unfilled);
         spent = spent_same;
         stands = record { own = way.own; answer_is = sym answer ∙ ap (answer_where call) (is ∙ content) };
@@ -311,6 +326,18 @@ module _ (key : ℕ) (call : Call) (v0 v1 v2 : PassView) (sought : Sought) (seek
           (draws_grow builds.words v2 v3 builds.only builds.drawn) (draws_own v2 v3 builds.only)
           (ap (λ (view : PassView). view.turn) builds.only) wider.0 wider_read (cost_fits builds.words builds.bound)
 
+      -- where no bucket was filled, it drew its row alone
+      plain_turn : (words : ℕ) (v4 : PassView) → words ≡ built.spends.words → v4.made.fills ≡ v3.made.fills → v4.made.freezes ≡ v3.made.freezes
+          → DrawsOneRow words (length built.spends.wide) v0 v4
+      plain_turn words v4 is same_fills same_freezes fills =
+          let before : v2.made.fills ≡ v0.made.fills =
+          sym (ap (λ (made : StepCounts). made.fills) builds.steps.only) ∙ sym same_fills ∙ fills in
+          let none = (unfilled before).0 in
+          let frozen = unfrozen before in (
+            omega (arith, is, none, builds.bound, wider.1.second, at_most_one_more call key keys rising changes),
+            omega (arith, frozen, same_freezes, ap (λ (made : StepCounts). made.freezes) builds.steps.only),
+          )
+
       -- the row that the word names is the one that was read
       named : named_row v3 sought.word ≡ row_at v2.known at
       named = ap (row_at v3.known) (sym built.address)
@@ -371,6 +398,8 @@ module _ (key : ℕ) (call : Call) (v0 v1 v2 : PassView) (sought : Sought) (seek
               unspent = unspent;
             });
             unspent = inl unspent;
+            unfilled = plain_turn built.spends.words v4 refl (ap (λ (view : PassView). view.made.fills) lost.view_is)
+                (ap (λ (view : PassView). view.made.freezes) lost.view_is);
             spent = ap (λ (view : PassView). view.spent) lost.view_is ∙ builds.spent ∙ spent_same;
             others = subst (λ (facts : RoundFacts). facts.seats ≢ 1) built.spends.grows.facts lost.others;
           }
@@ -410,6 +439,8 @@ module _ (key : ℕ) (call : Call) (v0 v1 v2 : PassView) (sought : Sought) (seek
           spends = spends_before (turns_cost 1) 0 (known_block block.at (Row published) ∷ []) v0 v3 v4 built.spends
               (won_grown serial sought.word block.at v3 v4 won);
           stands = entered idle;
+          unfilled = plain_turn built.spends.words v4 refl (ap (λ (view : PassView). view.made.fills) won.view_is)
+              (ap (λ (view : PassView). view.made.freezes) won.view_is);
           reads = λ unchanged. absurd (cc);
           spent = ap (λ (view : PassView). view.spent) won.view_is ∙ builds.spent ∙ spent_same;
           width = record {

@@ -9,6 +9,7 @@ pub mod Joining
 pub mod Closing
 pub mod Sources
 pub mod Filling
+pub mod Freezing
 pub mod FilledByOne
 pub mod FilledByTwo
 pub mod Naming

@@ -1,5 +1,6 @@
 -- Filling a bucket of a generation from the one before.
-use Rattle.std.specs.Prelude.{◌≡◌, ℕ, ◌+◌, ◌≤◌, ◌⊎◌, true, [], ◌∷◌, None}
+use Rattle.std.specs.Prelude.{◌≡◌, ℕ, ◌+◌, ◌≤◌, ◌⊎◌, true, List, [], ◌∷◌, ◌++◌, length, All, None}
+use Rattle.step_core.specs.Content.{bucket_of}
 use Rattle.step_core.specs.Format.{IsFrozen, row_address}
 use Rattle.step_core.specs.declared.format.TheConstants.{FIRST_BUCKET}
 use Rattle.step_core.specs.declared.published.Published.TheVariants.{Row}
@@ -103,6 +104,26 @@ pub record OnlyFills (before after : StepCounts) : Type 0 where
   pub fills : after.fills ≤ before.fills + 1
   pub freezes : after.freezes ≤ before.freezes + 2
 
+-- the cell is that of a source of the bucket: of the generation before, and of a bucket that shares a
+-- spot with it
+pub record IsSourceCell (view : PassView) (generation : GenerationBlock) (bucket : ℕ) (cell : FixedCell)
+    : Type 0 where
+  pub source : GenerationBlock
+  pub known : KnowsGeneration view generation.predecessor source
+  pub at : cell.at ≡ generation.predecessor
+  pub spot : ℕ
+  pub of_bucket : bucket_of generation.exponent spot ≡ bucket
+  pub place : cell.place ≡ bucket_of source.exponent spot
+
+-- each freeze was that of a source of the bucket
+pub record FreezesSources (head bucket : ℕ) (old new : PassView) : Type 0 where
+  pub generation : GenerationBlock
+  pub known : KnowsGeneration new head generation
+  pub cells : List FixedCell
+  pub fixed : new.fixed ≡ cells ++ old.fixed
+  pub freezes : new.made.freezes ≡ old.made.freezes + length cells
+  pub sources : All (IsSourceCell new generation bucket) cells
+
 -- The row that the bucket may be filled with was built.
 pub record BuildsFilling (filling : Filling) (block : BlockValue) (old new : PassView)
     : Type 0 where
@@ -114,16 +135,18 @@ pub record BuildsFilling (filling : Filling) (block : BlockValue) (old new : Pas
   pub unspent : old.spent ≡ None
   pub spent : new.spent ≡ old.spent
   pub steps : OnlyFills old.made new.made
+  pub frozen : FreezesSources filling.head filling.bucket old new
   pub unfilled : new.made.fills ≡ old.made.fills
 
 -- No block for the row was to be had.
-pub record RefusesFilling (old new : PassView) : Type 0 where
+pub record RefusesFilling (head bucket : ℕ) (old new : PassView) : Type 0 where
   pub spends : Spends filling_cost 0 old new
   pub own : KeepsOwn old new
   pub turn : new.turn ≡ old.turn
   pub nils : new.nils ≡ old.nils
   pub full : IsOutOfWords spends.words old new
   pub steps : OnlyFills old.made new.made
+  pub frozen : FreezesSources head bucket old new
   pub unfilled : new.made.fills ≡ old.made.fills
 
 -- The bucket isn't nil: it is known to be filled, or it is one of a generation without one before.
@@ -137,6 +160,7 @@ pub record EnsuresFilled (head bucket : ℕ) (old new : PassView) : Type 0 where
   pub unspent : (old.spent ≡ None) ⊎ (spends.words ≡ 0)
   pub spent : new.spent ≡ old.spent
   pub steps : OnlyFills old.made new.made
+  pub frozen : FreezesSources head bucket old new
   -- an exchange was made, but where there is none before
   pub exchanged : (new.made.fills ≡ old.made.fills + 1) ⊎ (generation.predecessor ≡ 0)
   -- without an exchange nothing was drawn

@@ -29,7 +29,7 @@ pub fn ensure(round: &Round, pass: &mut Pass, head: u64, bucket: u64) -> Result<
     requires knows { KnowsBucketAt pass.old.view head bucket }
     ensures pass { IsSamePass pass.old pass.new }
     ensures answer { OnOk result (EnsuresFilled head bucket pass.old.view pass.new.view) }
-    ensures full { OnErr result (RefusesFilling pass.old.view pass.new.view) }
+    ensures full { OnErr result (RefusesFilling head bucket pass.old.view pass.new.view) }
 {
     round.sound(pass);
     let exponent = round.load_sealed(pass, head);
@@ -78,7 +78,8 @@ fn build_filling(round: &Round, pass: &mut Pass, filling: &Filling) -> Result<Bl
     ensures pass { IsSamePass pass.old pass.new }
     ensures answer { IfOk result (λ block.
         BuildsFilling filling.now block pass.old.view pass.new.view) }
-    ensures full { OnErr result (RefusesFilling pass.old.view pass.new.view) }
+    ensures full { OnErr result (RefusesFilling filling.now.head filling.now.bucket
+        pass.old.view pass.new.view) }
 {
     round.sound(pass);
     if filling.before < filling.exponent {

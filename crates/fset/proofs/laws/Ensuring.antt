@@ -1,5 +1,6 @@
 -- A bucket for which a row was built is filled by the exchange, won or lost; one of a generation without one before isn't nil.
 use Rattle.std.proofs.lemmas.List.{append-nil}
+use Rattle.std.proofs.lemmas.List.Elements.{All-nil}
 use Rattle.std.proofs.Common.{◌≡◌, ◌≢◌, ℕ, ◌+◌, ◌≤◌, List, [], ◌∷◌, ◌++◌, Result, Ok, Err, OnOk, IfErr, inl, inr, refl, sym, ap, ◌∙◌, subst, add-zero, arith}
 use base.Growing.{prefix_refl}
 use Rattle.step_core.specs.Limits.{max_exponent}
@@ -19,11 +20,12 @@ use Rattle.cells.specs.Steps.{LoadsSealed, filled_bucket}
 use Rattle.cells.specs.Tokens.{BlockValue}
 use Rattle.cells.proofs.laws.Known.{bucket_word_stays, generation_at-known, knows_more}
 use Rattle.cells.proofs.laws.Sealed.{knows_exponent, knows_predecessor}
-use Rattle.fset.specs.Ensuring.{BuildsFilling, EnsuresFilled, IsFilling, OnlyFillSteps, RefusesFilling}
+use Rattle.fset.specs.Ensuring.{BuildsFilling, EnsuresFilled, IsFilling, IsSourceCell, OnlyFillSteps, RefusesFilling}
 use Rattle.fset.specs.Frames.{Grows, KeepsOwn, filling_cost, row_cost}
 use Rattle.fset.specs.declared.ensuring.Filling.{Filling}
 use Rattle.fset.proofs.laws.Closing.{is_among-first}
 use Rattle.fset.proofs.laws.Filling.{fill_steps_then, refused_from}
+use Rattle.fset.proofs.laws.Freezing.{sources_before, sources_behind}
 use Rattle.fset.proofs.laws.Frames.{behind_self, grows_then, keys_of-none, own_then, reads_grow, reads_own, spends_after, spends_before}
 use Rattle.fset.proofs.laws.Looking.{exponent_is, exponent_still, still_known}
 use Rattle.fset.proofs.laws.Naming.{named_is, names_grow, names_own, names_predecessor}
@@ -39,6 +41,7 @@ pub record EndsFilling (place : ℕ) (old new : PassView) : Type 0 where
   pub grows : Grows learned 0 0 old new
   pub own : KeepsOwn old new
   pub filled : new.filled ≡ filled_bucket old place ∷ old.filled
+  pub fixed : new.fixed ≡ old.fixed
   pub turn : new.turn ≡ old.turn
   pub spent : new.spent ≡ old.spent
   pub made : new.made ≡ record old.made { fills = old.made.fills + 1 }
@@ -58,6 +61,7 @@ won_filling place at old new won = subst (EndsFilling place old) (sym won.view_i
   };
   own = record { mine = refl; flight = refl; used = refl };
   filled = refl;
+  fixed = refl;
   turn = refl;
   spent = refl;
   made = refl;
@@ -78,6 +82,7 @@ lost_filling place old new lost = subst (EndsFilling place old) (sym lost.view_i
   };
   own = record { mine = refl; flight = refl; used = refl };
   filled = refl;
+  fixed = refl;
   turn = refl;
   spent = refl;
   made = refl;
@@ -149,6 +154,14 @@ module _ (head bucket : ℕ) (v0 : PassView) (generation : GenerationBlock)
       fills = omega (arith, ap (λ (made : StepCounts). made.fills) named_made);
       freezes = omega (arith, ap (λ (made : StepCounts). made.freezes) named_made);
     };
+    frozen = record {
+      generation = generation;
+      known = knows_more second.learned v0 v2 named_grown.known head (Generation generation) is_word.known;
+      cells = [];
+      fixed = ap (λ (view : PassView). view.fixed) second.view ∙ ap (λ (view : PassView). view.fixed) still;
+      freezes = ap (λ (made : StepCounts). made.freezes) named_made ∙ sym (add-zero v0.made.freezes);
+      sources = All-nil (IsSourceCell v2 generation bucket);
+    };
     exchanged = inr (sym (named_is head generation v1 predecessor v2 known_one second) ∙ none);
     unfilled = λ same.
         (refl, ap (λ (view : PassView). view.hands) second.view ∙ ap (λ (view : PassView). view.hands) still);
@@ -218,8 +231,12 @@ module _ (head bucket : ℕ) (v0 : PassView) (generation : GenerationBlock)
     read_steps : OnlyFillSteps v0.made v3.made
     read_steps = subst (OnlyFillSteps v0.made) (sym read_made) refl
 
+    read_fixed : v3.fixed ≡ v0.fixed
+    read_fixed = ap (λ (view : PassView). view.fixed) still_then ∙ ap (λ (view : PassView). view.fixed) second.view
+        ∙ ap (λ (view : PassView). view.fixed) still
+
     -- Where no block was to be had, the bucket isn't filled.
-    pub filling_refused : (v4 : PassView) → RefusesFilling v3 v4 → RefusesFilling v0 v4
+    pub filling_refused : (v4 : PassView) → RefusesFilling head bucket v3 v4 → RefusesFilling head bucket v0 v4
     filling_refused v4 refuses = record {
       spends = spends_after filling_cost 0 second.learned v0 v3 v4 read_grown refuses.spends;
       own = own_then v0 v3 v4 read_own refuses.own;
@@ -233,6 +250,7 @@ module _ (head bucket : ℕ) (v0 : PassView) (generation : GenerationBlock)
         fills = omega (arith, refuses.steps.fills, ap (λ (made : StepCounts). made.fills) read_made);
         freezes = omega (arith, refuses.steps.freezes, ap (λ (made : StepCounts). made.freezes) read_made);
       };
+      frozen = sources_behind head bucket v0 v3 v4 read_fixed (ap (λ (made : StepCounts). made.freezes) read_made) refuses.frozen;
       unfilled = refuses.unfilled ∙ ap (λ (made : StepCounts). made.fills) read_made;
     }
 
@@ -282,6 +300,9 @@ module _ (head bucket : ℕ) (v0 : PassView) (generation : GenerationBlock)
               ap (λ (made : StepCounts). made.freezes) ends.made,
             );
           };
+          frozen = sources_before head bucket v0 v4 v5 ends.learned ends.grows.known ends.fixed
+              (ap (λ (made : StepCounts). made.freezes) ends.made)
+              (sources_behind head bucket v0 v3 v4 read_fixed (ap (λ (made : StepCounts). made.freezes) read_made) builds.frozen);
           exchanged = inl (omega (
             arith,
             builds.unfilled,

@@ -1,5 +1,6 @@
 -- After a growth the row that was built of the one source's keys may fill the bucket; and what was drawn for it is bounded by its width.
 use Rattle.std.proofs.Common.{◌≡◌, ℕ, ◌+◌, ◌%◌, ◌^◌, List, [], ◌∷◌, length, All, refl, sym, ap, ◌∙◌, subst, arith}
+use Rattle.std.proofs.Math.Nat.{mod-eq_of_lt}
 use Rattle.std.specs.List.Sorted.{IsStrictlyIncreasing}
 use Rattle.set_model.specs.Keys.{is_in}
 use Rattle.step_core.specs.Buckets.{class_keys}
@@ -14,7 +15,7 @@ use Rattle.cells.specs.Filling.{KnowsClosed, source_row}
 use Rattle.cells.specs.Known.{known_block}
 use Rattle.cells.specs.Sound.{IsSound}
 use Rattle.cells.specs.Tokens.{BlockValue}
-use Rattle.fset.specs.Ensuring.{BuildsFilling, ClosesBucket, IsFilling, OnlyFillSteps, OnlyFills, RefusesFilling}
+use Rattle.fset.specs.Ensuring.{BuildsFilling, ClosesBucket, FreezesSources, IsFilling, OnlyFillSteps, OnlyFills, RefusesFilling}
 use Rattle.fset.specs.Frames.{row_cost}
 use Rattle.fset.specs.Rows.{Builds, OnlyBuilds, RefusesRow}
 use Rattle.fset.specs.Splitting.{split_keys}
@@ -24,7 +25,8 @@ use Rattle.fset.proofs.laws.Closing.{closed_content, closed_holds, closed_keys, 
 use Rattle.fset.proofs.laws.Frames.{keys_of-row}
 use Rattle.fset.proofs.laws.Sources.{split_class, split_fewer, split_from, split_has, split_source}
 use Rattle.fset.proofs.laws.Splitting.{split-rises}
-use Rattle.fset.proofs.laws.Filling.{built_grown, built_own, built_steps, built_turn, may_fill, refused_from}
+use Rattle.fset.proofs.laws.Filling.{built_grown, built_own, built_steps, built_turn, filling_within, may_fill, refused_from}
+use Rattle.fset.proofs.laws.Freezing.{froze_one}
 
 module _ (filling : Filling) (v0 : PassView) (f : IsFilling v0 filling) (sound : IsSound v0) where
   module _ (one : filling.exponent ≡ filling.before + 1) (seen : Seen) (v1 v2 : PassView)
@@ -49,6 +51,14 @@ module _ (filling : Filling) (v0 : PassView) (f : IsFilling v0 filling) (sound :
         built_steps v0 v1 v2 read closes.grows closes.only writes (subst (OnlyFillSteps v0.made) (sym closes.made) refl)
         (let freezes : v1.made.freezes ≡ v0.made.freezes + 1 = ap (λ (made : StepCounts). made.freezes) closes.made in omega (arith, freezes))
         (ap (λ (made : StepCounts). made.draws) closes.made) (ap (λ (made : StepCounts). made.fills) closes.made) builds
+
+    -- the one source was frozen
+    split_froze : v2.known ≡ v1.known → v2.fixed ≡ v1.fixed → v2.made.freezes ≡ v1.made.freezes
+        → FreezesSources filling.head filling.bucket v0 v2
+    split_froze known fixed freezes =
+        froze_one filling v0 f read v2 (known ∙ closes.grows.known) filling.bucket (filling.bucket % 2 ^ filling.before) closes.word
+        (mod-eq_of_lt (filling_within filling v0 f sound)) refl (fixed ∙ closes.fixed)
+        (freezes ∙ ap (λ (made : StepCounts). made.freezes) closes.made)
 
     -- where they were built
     module _ (block : BlockValue) (builds : Builds split block v1 v2) where
@@ -104,11 +114,13 @@ module _ (filling : Filling) (v0 : PassView) (f : IsFilling v0 filling) (sound :
         unspent = sym (ap (λ (view : PassView). view.spent) closes.only) ∙ builds.unspent;
         spent = builds.spent ∙ ap (λ (view : PassView). view.spent) closes.only;
         steps = split_steps (row_cost (length split)) builds.steps;
+        frozen = split_froze same_known (ap (λ (view : PassView). view.fixed) builds.only)
+            (ap (λ (made : StepCounts). made.freezes) builds.steps.only);
         unfilled = ap (λ (made : StepCounts). made.fills) builds.steps.only ∙ ap (λ (made : StepCounts). made.fills) closes.made;
       }
 
     -- and where no block for it was to be had, no more was drawn than for the row that was read.
-    pub split_refused : RefusesRow split v1 v2 → RefusesFilling v0 v2
+    pub split_refused : RefusesRow split v1 v2 → RefusesFilling filling.head filling.bucket v0 v2
     split_refused refuses = record {
       spends = record {
         learned = read;
@@ -128,5 +140,7 @@ module _ (filling : Filling) (v0 : PassView) (f : IsFilling v0 filling) (sound :
       nils = ap (λ (view : PassView). view.nils) refuses.only ∙ ap (λ (view : PassView). view.nils) closes.only;
       full = refused_from refuses.words read 0 v0 v1 v2 closes.grows (ap (λ (view : PassView). view.spent) closes.only) refuses.full;
       steps = split_steps 0 refuses.steps;
+      frozen = split_froze (ap (λ (view : PassView). view.known) refuses.only) (ap (λ (view : PassView). view.fixed) refuses.only)
+          (ap (λ (made : StepCounts). made.freezes) refuses.steps.only);
       unfilled = ap (λ (made : StepCounts). made.fills) refuses.steps.only ∙ ap (λ (made : StepCounts). made.fills) closes.made;
     }

@@ -1,5 +1,6 @@
 -- After a shrink the row that was built of both sources' keys may fill the bucket; and what was drawn for it is bounded by its width.
 use Rattle.std.proofs.Common.{◌≡◌, ℕ, ◌+◌, ◌^◌, ◌<◌, true, List, [], ◌∷◌, ◌++◌, length, All, ⊎_elim, refl, sym, ap, ◌∙◌, subst, arith}
+use Rattle.std.proofs.Math.Nat.{add-mod_right, mod-eq_of_lt}
 use Rattle.std.specs.List.Sorted.{IsStrictlyIncreasing}
 use Rattle.set_model.specs.Keys.{is_in}
 use Rattle.step_core.specs.Content.{bucket_of, spot_of, InClass}
@@ -14,7 +15,7 @@ use Rattle.cells.specs.Filling.{KnowsClosed, source_row}
 use Rattle.cells.specs.Known.{known_block}
 use Rattle.cells.specs.Sound.{IsSound}
 use Rattle.cells.specs.Tokens.{BlockValue}
-use Rattle.fset.specs.Ensuring.{BuildsFilling, ClosesBucket, IsFilling, OnlyCloses, OnlyFillSteps, OnlyFills, RefusesFilling, cell_of}
+use Rattle.fset.specs.Ensuring.{BuildsFilling, ClosesBucket, FreezesSources, IsFilling, OnlyCloses, OnlyFillSteps, OnlyFills, RefusesFilling, cell_of}
 use Rattle.fset.specs.Frames.{AreKeysOf, Grows, IsKeyOf, row_cost}
 use Rattle.fset.specs.Joining.{joined, joined_keys}
 use Rattle.fset.specs.Rows.{Builds, OnlyBuilds, RefusesRow}
@@ -26,6 +27,7 @@ use Rattle.fset.proofs.laws.Frames.{grows_then, keys_of-either, keys_of-row, lon
 use Rattle.fset.proofs.laws.Joining.{joined-rises, length-joined}
 use Rattle.fset.proofs.laws.Reading.{seen_stays}
 use Rattle.fset.proofs.laws.Sources.{joined_class, joined_from, joined_high, joined_low, join_source, other_source, sources_within}
+use Rattle.fset.proofs.laws.Freezing.{froze_two}
 use Rattle.fset.proofs.laws.Filling.{built_grown, built_own, built_steps, built_turn, fill_steps_then, filling_within, may_fill, refused_from, source_word}
 
 module _ (filling : Filling) (v0 : PassView) (f : IsFilling v0 filling) (sound : IsSound v0) where
@@ -96,6 +98,19 @@ module _ (filling : Filling) (v0 : PassView) (f : IsFilling v0 filling) (sound :
           let from : IsKeyOf both_read key = (high.at, second.row, (0, omega arith, refl), one) in from)
           (joined_from first.row.keys second.row.keys key (sym (ap (λ (list : List ℕ). is_in list key) joint_is) ∙ here));
     }
+
+    -- both sources were frozen
+    joint_froze : (v3 : PassView) → v3.known ≡ v2.known → v3.fixed ≡ v2.fixed → v3.made.freezes ≡ v2.made.freezes
+        → FreezesSources filling.head filling.bucket v0 v3
+    joint_froze v3 known fixed freezes =
+        let bucket_small = filling_within filling v0 f sound in
+        froze_two filling v0 f both_read v3 (known ∙ closed_grown.known) filling.bucket filling.bucket first.word other other second.word
+        (mod-eq_of_lt bucket_small) (sym (mod-eq_of_lt within.0))
+        (add-mod_right filling.bucket (2 ^ filling.exponent) ∙ mod-eq_of_lt bucket_small) (sym (mod-eq_of_lt within.1))
+        (fixed ∙ second.fixed ∙ ap (λ (list : List FixedCell). cell_of filling.predecessor other second.word ∷ list) first.fixed)
+        (let one = ap (λ (made : StepCounts). made.freezes) first.made in
+        let two = ap (λ (made : StepCounts). made.freezes) second.made in
+        omega (arith, freezes, one, two))
 
     joint_steps : (v3 : PassView) (writes : ℕ) → OnlyBuilds writes v2.made v3.made → OnlyFills v0.made v3.made
     joint_steps v3 writes builds =
@@ -184,12 +199,14 @@ module _ (filling : Filling) (v0 : PassView) (f : IsFilling v0 filling) (sound :
         unspent = sym (ap (λ (view : PassView). view.spent) closed) ∙ builds.unspent;
         spent = builds.spent ∙ ap (λ (view : PassView). view.spent) closed;
         steps = joint_steps v3 (row_cost (length joint)) builds.steps;
+        frozen = joint_froze v3 (ap (λ (view : PassView). view.known) builds.only) (ap (λ (view : PassView). view.fixed) builds.only)
+            (ap (λ (made : StepCounts). made.freezes) builds.steps.only);
         unfilled = ap (λ (made : StepCounts). made.fills) builds.steps.only
             ∙ ap (λ (made : StepCounts). made.fills) second.made ∙ ap (λ (made : StepCounts). made.fills) first.made;
       }
 
     -- and where no block for it was to be had, no more was drawn than for the two rows that were read.
-    pub joint_refused : (v3 : PassView) → RefusesRow joint v2 v3 → RefusesFilling v0 v3
+    pub joint_refused : (v3 : PassView) → RefusesRow joint v2 v3 → RefusesFilling filling.head filling.bucket v0 v3
     joint_refused v3 refuses =
         let widest = longer first.row.keys second.row.keys in
         record {
@@ -215,6 +232,8 @@ module _ (filling : Filling) (v0 : PassView) (f : IsFilling v0 filling) (sound :
           nils = ap (λ (view : PassView). view.nils) refuses.only ∙ ap (λ (view : PassView). view.nils) closed;
           full = refused_from refuses.words both_read 0 v0 v2 v3 closed_grown (ap (λ (view : PassView). view.spent) closed) refuses.full;
           steps = joint_steps v3 0 refuses.steps;
+          frozen = joint_froze v3 (ap (λ (view : PassView). view.known) refuses.only) (ap (λ (view : PassView). view.fixed) refuses.only)
+              (ap (λ (made : StepCounts). made.freezes) refuses.steps.only);
           unfilled = ap (λ (made : StepCounts). made.fills) refuses.steps.only
               ∙ ap (λ (made : StepCounts). made.fills) second.made ∙ ap (λ (made : StepCounts). made.fills) first.made;
         }

@@ -185,7 +185,7 @@ module _ (head key : ℕ) (v0 v1 v2 : PassView) (nil : LoadedBucket) (heads : Lo
       }) nil_made
 
   -- No block to fill it with was to be had,
-  pub finds_nil : (v3 : PassView) → RefusesFilling v2 v3 → FindsNil key v0 v3
+  pub finds_nil : (v3 : PassView) → RefusesFilling head nil.bucket v2 v3 → FindsNil key v0 v3
   finds_nil v3 refuses =
       let buckets = ap (λ (made : StepCounts). made.bucket_loads) refuses.steps.only in
       let before = ap (λ (made : StepCounts). made.bucket_loads) nil_made in

@@ -42,7 +42,7 @@ returns-then-filling-clause-full c =
     let row = c.close_bucket-row.result in
     let closes = subst (λ (size : ℕ). ClosesBucket filling.predecessor (filling.bucket % size) v0 row v1) c.bucket_count.ensures.count
     c.close_bucket-row.ensures.answer in
-    IfErr-weaker c.build_split-built.result _ (λ _. RefusesFilling v0 v2)
+    IfErr-weaker c.build_split-built.result _ (λ _. RefusesFilling filling.head filling.bucket v0 v2)
     (λ _ refuses. split_refused filling v0 c.requires.knows c.sound.ensures.view
     (more_bits filling v0 c.requires.knows c.sound.ensures.view c.if-filling.true) row v1 v2 closes c.sound-then-filling.ensures.view
     c.sound-then-filling-2.ensures.view refuses) c.build_split-built.ensures.full
@@ -115,7 +115,7 @@ returns-clause-full c =
     let high = c.close_bucket-high.result in
     let second = subst (λ (size : ℕ). ClosesBucket filling.predecessor (filling.bucket + size) v1 high v2) c.bucket_count-2.ensures.count
     c.close_bucket-high.ensures.answer in
-    IfErr-weaker c.build_joined-built.result _ (λ _. RefusesFilling v0 v3)
+    IfErr-weaker c.build_joined-built.result _ (λ _. RefusesFilling filling.head filling.bucket v0 v3)
     (λ _ refuses. joint_refused filling v0 c.requires.knows sound (fewer_exponent filling v0 c.requires.knows sound c.if-filling.false)
     c.close_bucket-low.result high v1 v2 c.close_bucket-low.ensures.answer second c.sound-3.ensures.view v3 refuses)
     c.build_joined-built.ensures.full

@@ -26,7 +26,7 @@ use Rattle.fset.proofs.laws.Frames.{grows_then, keys_of-either, keys_of-row, lon
 use Rattle.fset.proofs.laws.Joining.{joined-rises, length-joined}
 use Rattle.fset.proofs.laws.Reading.{seen_stays}
 use Rattle.fset.proofs.laws.Sources.{joined_class, joined_from, joined_high, joined_low, join_source, other_source, sources_within}
-use Rattle.fset.proofs.laws.Filling.{built_grown, built_own, built_steps, built_turn, fill_steps_then, filling_within, may_fill, refused_from, source_word}
+use Rattle.fset.proofs.laws.Filling.{built_grown, built_own, built_steps, built_notes, built_turn, fill_steps_then, filling_within, may_fill, refused_from, source_word}
 
 module _ (filling : Filling) (v0 : PassView) (f : IsFilling v0 filling) (sound : IsSound v0) where
   module _ (two : filling.before ≡ filling.exponent + 1) (low high : Seen) (v1 v2 : PassView)
@@ -179,8 +179,8 @@ module _ (filling : Filling) (v0 : PassView) (f : IsFilling v0 filling) (sound :
           bound = builds.bound;
         };
         own = built_own v0 v2 v3 both_read closed_grown closed builds.only;
-        turn = (built_turn v0 v2 v3 both_read closed_grown closed builds.only).0;
-        filled = (built_turn v0 v2 v3 both_read closed_grown closed builds.only).1;
+        turn = built_turn v0 v2 v3 both_read closed_grown closed builds.only;
+        notes = built_notes v0 v2 v3 both_read closed_grown closed builds.only;
         unspent = sym (ap (λ (view : PassView). view.spent) closed) ∙ builds.unspent;
         spent = builds.spent ∙ ap (λ (view : PassView). view.spent) closed;
         steps = joint_steps v3 (row_cost (length joint)) builds.steps;
@@ -211,8 +211,8 @@ module _ (filling : Filling) (v0 : PassView) (f : IsFilling v0 filling) (sound :
             );
           };
           own = built_own v0 v2 v3 both_read closed_grown closed refuses.only;
-          turn = (built_turn v0 v2 v3 both_read closed_grown closed refuses.only).0;
-          nils = ap (λ (view : PassView). view.nils) refuses.only ∙ ap (λ (view : PassView). view.nils) closed;
+          turn = built_turn v0 v2 v3 both_read closed_grown closed refuses.only;
+          notes = built_notes v0 v2 v3 both_read closed_grown closed refuses.only;
           full = refused_from refuses.words both_read 0 v0 v2 v3 closed_grown (ap (λ (view : PassView). view.spent) closed) refuses.full;
           steps = joint_steps v3 0 refuses.steps;
           unfilled = ap (λ (made : StepCounts). made.fills) refuses.steps.only

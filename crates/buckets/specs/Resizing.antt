@@ -79,6 +79,7 @@ pub record IsReady (IsNext : ℕ → ℕ → Type 0) (head exponent at : ℕ) (o
     pub before : ℕ
     pub loads : LoadsExponent head before old start
     pub next : IsNext before exponent
+    pub small : exponent ≤ max_exponent
     pub filled : PassView
     pub fills : FillsFirst head before (buckets_of before) start filled
     pub builds : BuildsNext head exponent at filled new
@@ -128,6 +129,7 @@ pub record RefusesResize (IsNext : ℕ → ℕ → Type 0) (old new : PassView) 
   pub loads : LoadsExponent head before old start
   pub exponent : ℕ
   pub next : IsNext before exponent
+  pub small : exponent ≤ max_exponent
   pub resizes : Resizes exponent old new
   pub first : ℕ
   pub last : ℕ

@@ -83,7 +83,8 @@ module _ (head before : ℕ) (v0 v1 : PassView) (loads : LoadsExponent head befo
     here = loads.here;
   }
 
-  module _ (IsNext : ℕ → ℕ → Type 0) (exponent : ℕ) (next : IsNext before exponent) (v2 : PassView) where
+  module _ (IsNext : ℕ → ℕ → Type 0) (exponent : ℕ) (next : IsNext before exponent) (small : exponent ≤ max_exponent)
+      (v2 : PassView) where
     -- No block was to be had for a row to fill a bucket with.
     pub filling_refused : RefusesFirst before v1 v2 → RefusesResize IsNext v0 v2
     filling_refused refuses = record {
@@ -93,6 +94,7 @@ module _ (head before : ℕ) (v0 v1 : PassView) (loads : LoadsExponent head befo
       loads = loads;
       exponent = exponent;
       next = next;
+      small = small;
       resizes = record {
         nils = refuses.fills.nils;
         found = refuses.fills.found ∙ ap (λ (list : List NilBucket). refuses.fills.nils ++ list) loaded_nils;
@@ -153,6 +155,7 @@ module _ (head before : ℕ) (v0 v1 : PassView) (loads : LoadsExponent head befo
         loads = loads;
         exponent = exponent;
         next = next;
+        small = small;
         resizes = drawn_more refuses.words refuses.only refuses.drawn refuses.bound refuses.same.0;
         first = fills.fills.spends.words;
         last = refuses.words;
@@ -181,7 +184,7 @@ module _ (head before : ℕ) (v0 v1 : PassView) (loads : LoadsExponent head befo
       module _ (at : ℕ) (builds : BuildsNext head exponent at v2 v3) where
         -- The generation was built,
         pub is_ready : IsReady IsNext head exponent at v0 v3
-        is_ready = record { start = v1; before = before; loads = loads; next = next; filled = v2; fills = fills; builds = builds }
+        is_ready = record { start = v1; before = before; loads = loads; next = next; small = small; filled = v2; fills = fills; builds = builds }
 
         abbrev built_resizes : Resizes exponent v0 v3
         built_resizes = drawn_more (generation_cost exponent) builds.only builds.drawn (omega arith)
@@ -224,9 +227,9 @@ module _ (head before : ℕ) (v0 v1 : PassView) (loads : LoadsExponent head befo
         })
 
         -- and may be put in the place of the head,
-        pub may_swap : ((before after : ℕ) → IsNext before after → (after ≡ before + 1) ⊎ (before ≡ after + 1)) → exponent ≤ max_exponent
+        pub may_swap : ((before after : ℕ) → IsNext before after → (after ≡ before + 1) ⊎ (before ≡ after + 1))
             → MaySwapHead v3 head at
-        may_swap either small = record {
+        may_swap either = record {
           generation = fills.generation;
           known = knows_more [] v2 v3 (ap (λ (view : PassView). view.known) builds.only) head (Generation fills.generation)
               (knows_more fills.fills.spends.learned v1 v2 fills.fills.spends.grows.known head (Generation fills.generation) fills.known);

@@ -11,3 +11,6 @@ mod resizing;
 
 pub use outcomes::Resized;
 pub use resizing::{exponent, grow, shrink};
+
+#[cfg(test)]
+mod tests;

@@ -75,7 +75,7 @@ pub(crate) enum Way {
 
 impl Way {
     // The exponent that comes next. None where there is no further one.
-    fn next(self, exponent: u32) -> Option<u32>
+    pub(crate) fn next(self, exponent: u32) -> Option<u32>
         requires small { exponent ≤ max_exponent }
         ensures next { IfSome result (λ next. IsNextBy self exponent next × (next ≤ max_exponent)) }
         ensures limit { IfNone result (exponent ≡ limit_of self) }
@@ -90,11 +90,11 @@ impl Way {
 
 // A generation that was loaded as the head.
 #[derive(Clone, Copy)]
-struct Head {
+pub(crate) struct Head {
     // Its address.
-    at: u64,
+    pub(crate) at: u64,
     // Its exponent.
-    exponent: u32,
+    pub(crate) exponent: u32,
 }
 
 // Resizes the table to the exponent that comes next.
@@ -124,7 +124,7 @@ fn resize(round: &Round, pass: &mut Pass, way: Way) -> Resized
 }
 
 // Loads the head and its exponent.
-fn load_head(round: &Round, pass: &mut Pass) -> Head
+pub(crate) fn load_head(round: &Round, pass: &mut Pass) -> Head
     requires pass { IsPassOf round.now pass.old }
     ensures pass { IsSamePass pass.old pass.new }
     ensures answer { LoadsExponent result.at result.exponent pass.old.view pass.new.view }
@@ -140,7 +140,7 @@ fn load_head(round: &Round, pass: &mut Pass) -> Head
 }
 
 // Loads each bucket of the generation, which the pass knows, and fills those that are nil.
-fn fill_head(round: &Round, pass: &mut Pass, head: Head) -> Result<(), Full>
+pub(crate) fn fill_head(round: &Round, pass: &mut Pass, head: Head) -> Result<(), Full>
     requires pass { IsPassOf round.now pass.old }
     requires head { KnowsExponent pass.old.view head.at head.exponent }
     ensures pass { IsSamePass pass.old pass.new }
@@ -172,7 +172,12 @@ fn fill(round: &Round, pass: &mut Pass, at: u64, bucket: u64) -> Result<(), Full
 }
 
 // Builds a generation of the exponent, at most 24, that follows the one at `head`.
-fn build_next(round: &Round, pass: &mut Pass, head: u64, exponent: u32) -> Result<Block, Full>
+pub(crate) fn build_next(
+    round: &Round,
+    pass: &mut Pass,
+    head: u64,
+    exponent: u32,
+) -> Result<Block, Full>
     requires pass { IsPassOf round.now pass.old }
     requires small { exponent ≤ max_exponent }
     ensures pass { IsSamePass pass.old pass.new }

@@ -13,7 +13,7 @@ use Rattle.cells.specs.Filling.{MayFill}
 use Rattle.cells.specs.Known.{known_block, row_at, IsBucketWord, KnowsGeneration}
 use Rattle.cells.specs.Lone.{is_among}
 use Rattle.cells.specs.Tokens.{BlockValue}
-use Rattle.fset.specs.Frames.{Grows, KeepsOwn, Spends, filling_cost, row_cost}
+use Rattle.fset.specs.Frames.{Grows, IsBehind, KeepsOwn, Spends, filling_cost, row_cost}
 use Rattle.fset.specs.Rows.{IsOutOfWords}
 use Rattle.fset.specs.Seen.{IsSeen}
 use Rattle.fset.specs.declared.ensuring.Filling.{Filling}
@@ -85,6 +85,13 @@ pub record IsFilling (view : PassView) (filling : Filling) : Type 0 where
   pub exponent : filling.exponent ≡ generation.exponent
   pub of_source : filling.before ≡ source.exponent
 
+-- what was noted of loads of the head and of nil buckets stays, and buckets that were known to be
+-- filled are so
+pub record KeepsNotes (old new : PassView) : Type 0 where
+  pub heads : new.heads ≡ old.heads
+  pub nils : new.nils ≡ old.nils
+  pub filled : IsBehind old.filled new.filled
+
 -- of the steps that are counted only loads of sealed words, draws, writes, freezes and exchanges of
 -- nil buckets were made
 abbrev pub OnlyFillSteps : StepCounts → StepCounts → Type 0
@@ -131,7 +138,7 @@ pub record BuildsFilling (filling : Filling) (block : BlockValue) (old new : Pas
   pub spends : Spends row_cost 0 old new
   pub own : KeepsOwn old new
   pub turn : new.turn ≡ old.turn
-  pub filled : new.filled ≡ old.filled
+  pub notes : KeepsNotes old new
   pub unspent : old.spent ≡ None
   pub spent : new.spent ≡ old.spent
   pub steps : OnlyFills old.made new.made
@@ -143,7 +150,7 @@ pub record RefusesFilling (head bucket : ℕ) (old new : PassView) : Type 0 wher
   pub spends : Spends filling_cost 0 old new
   pub own : KeepsOwn old new
   pub turn : new.turn ≡ old.turn
-  pub nils : new.nils ≡ old.nils
+  pub notes : KeepsNotes old new
   pub full : IsOutOfWords spends.words old new
   pub steps : OnlyFills old.made new.made
   pub frozen : FreezesSources head bucket old new
@@ -157,6 +164,7 @@ pub record EnsuresFilled (head bucket : ℕ) (old new : PassView) : Type 0 where
   pub spends : Spends row_cost 0 old new
   pub own : KeepsOwn old new
   pub turn : new.turn ≡ old.turn
+  pub notes : KeepsNotes old new
   pub unspent : (old.spent ≡ None) ⊎ (spends.words ≡ 0)
   pub spent : new.spent ≡ old.spent
   pub steps : OnlyFills old.made new.made

@@ -20,11 +20,11 @@ use Rattle.cells.specs.Steps.{LoadsSealed, filled_bucket}
 use Rattle.cells.specs.Tokens.{BlockValue}
 use Rattle.cells.proofs.laws.Known.{bucket_word_stays, generation_at-known, knows_more}
 use Rattle.cells.proofs.laws.Sealed.{knows_exponent, knows_predecessor}
-use Rattle.fset.specs.Ensuring.{BuildsFilling, EnsuresFilled, IsFilling, IsSourceCell, OnlyFillSteps, RefusesFilling}
+use Rattle.fset.specs.Ensuring.{BuildsFilling, EnsuresFilled, IsFilling, IsSourceCell, OnlyFillSteps, RefusesFilling, KeepsNotes}
 use Rattle.fset.specs.Frames.{Grows, KeepsOwn, filling_cost, row_cost}
 use Rattle.fset.specs.declared.ensuring.Filling.{Filling}
 use Rattle.fset.proofs.laws.Closing.{is_among-first}
-use Rattle.fset.proofs.laws.Filling.{fill_steps_then, refused_from}
+use Rattle.fset.proofs.laws.Filling.{fill_steps_then, refused_from, notes_then}
 use Rattle.fset.proofs.laws.Freezing.{sources_before, sources_behind}
 use Rattle.fset.proofs.laws.Frames.{behind_self, grows_then, keys_of-none, own_then, reads_grow, reads_own, spends_after, spends_before}
 use Rattle.fset.proofs.laws.Looking.{exponent_is, exponent_still, still_known}
@@ -42,6 +42,8 @@ pub record EndsFilling (place : ℕ) (old new : PassView) : Type 0 where
   pub own : KeepsOwn old new
   pub filled : new.filled ≡ filled_bucket old place ∷ old.filled
   pub fixed : new.fixed ≡ old.fixed
+  pub heads : new.heads ≡ old.heads
+  pub nils : new.nils ≡ old.nils
   pub turn : new.turn ≡ old.turn
   pub spent : new.spent ≡ old.spent
   pub made : new.made ≡ record old.made { fills = old.made.fills + 1 }
@@ -62,6 +64,8 @@ won_filling place at old new won = subst (EndsFilling place old) (sym won.view_i
   own = record { mine = refl; flight = refl; used = refl };
   filled = refl;
   fixed = refl;
+  heads = refl;
+  nils = refl;
   turn = refl;
   spent = refl;
   made = refl;
@@ -83,6 +87,8 @@ lost_filling place old new lost = subst (EndsFilling place old) (sym lost.view_i
   own = record { mine = refl; flight = refl; used = refl };
   filled = refl;
   fixed = refl;
+  heads = refl;
+  nils = refl;
   turn = refl;
   spent = refl;
   made = refl;
@@ -122,12 +128,18 @@ module _ (head bucket : ℕ) (v0 : PassView) (generation : GenerationBlock)
   named_made = ap (λ (view : PassView). view.made) second.view
       ∙ ap (λ (view : PassView). record view.made { sealed_loads = view.made.sealed_loads + 1 }) still
 
-  named_same : (v2.turn ≡ v0.turn) × (v2.spent ≡ v0.spent) × (v2.nils ≡ v0.nils)
+  named_same : (v2.turn ≡ v0.turn) × (v2.spent ≡ v0.spent)
   named_same = (
     ap (λ (view : PassView). view.turn) second.view ∙ ap (λ (view : PassView). view.turn) still,
     ap (λ (view : PassView). view.spent) second.view ∙ ap (λ (view : PassView). view.spent) still,
-    ap (λ (view : PassView). view.nils) second.view ∙ ap (λ (view : PassView). view.nils) still,
   )
+
+  named_notes : KeepsNotes v0 v2
+  named_notes = record {
+    heads = ap (λ (view : PassView). view.heads) second.view ∙ ap (λ (view : PassView). view.heads) still;
+    nils = ap (λ (view : PassView). view.nils) second.view ∙ ap (λ (view : PassView). view.nils) still;
+    filled = ([], ap (λ (view : PassView). view.filled) second.view ∙ ap (λ (view : PassView). view.filled) still);
+  }
 
   -- A bucket of a generation without one before isn't nil.
   pub ensured_first : predecessor ≡ 0 → EnsuresFilled head bucket v0 v2
@@ -145,6 +157,7 @@ module _ (head bucket : ℕ) (v0 : PassView) (generation : GenerationBlock)
     };
     own = named_own;
     turn = named_same.0;
+    notes = named_notes;
     unspent = inr refl;
     spent = named_same.1;
     steps = record {
@@ -221,12 +234,18 @@ module _ (head bucket : ℕ) (v0 : PassView) (generation : GenerationBlock)
     read_made = ap (λ (view : PassView). view.made) still_then
         ∙ ap (λ (made : StepCounts). record made { sealed_loads = made.sealed_loads + 1 }) named_made
 
-    read_same : (v3.turn ≡ v0.turn) × (v3.spent ≡ v0.spent) × (v3.nils ≡ v0.nils)
+    read_same : (v3.turn ≡ v0.turn) × (v3.spent ≡ v0.spent)
     read_same = (
       ap (λ (view : PassView). view.turn) still_then ∙ named_same.0,
       ap (λ (view : PassView). view.spent) still_then ∙ named_same.1,
-      ap (λ (view : PassView). view.nils) still_then ∙ named_same.2,
     )
+
+    read_notes : KeepsNotes v0 v3
+    read_notes = notes_then v0 v2 v3 named_notes (record {
+      heads = ap (λ (view : PassView). view.heads) still_then;
+      nils = ap (λ (view : PassView). view.nils) still_then;
+      filled = ([], ap (λ (view : PassView). view.filled) still_then);
+    })
 
     read_steps : OnlyFillSteps v0.made v3.made
     read_steps = subst (OnlyFillSteps v0.made) (sym read_made) refl
@@ -241,7 +260,7 @@ module _ (head bucket : ℕ) (v0 : PassView) (generation : GenerationBlock)
       spends = spends_after filling_cost 0 second.learned v0 v3 v4 read_grown refuses.spends;
       own = own_then v0 v3 v4 read_own refuses.own;
       turn = refuses.turn ∙ read_same.0;
-      nils = refuses.nils ∙ read_same.2;
+      notes = notes_then v0 v3 v4 read_notes refuses.notes;
       full = refused_from refuses.spends.words second.learned 0 v0 v3 v4 read_grown read_same.1 refuses.full;
       steps = record {
         only = fill_steps_then v0.made v3.made v4.made read_steps refuses.steps.only;
@@ -270,6 +289,8 @@ module _ (head bucket : ℕ) (v0 : PassView) (generation : GenerationBlock)
           spends = spends_before row_cost 0 ends.learned v0 v4 v5 spent ends.grows;
           own = own_then v0 v4 v5 (own_then v0 v3 v4 read_own builds.own) ends.own;
           turn = ends.turn ∙ builds.turn ∙ read_same.0;
+          notes = notes_then v0 v4 v5 (notes_then v0 v3 v4 read_notes builds.notes)
+              (record { heads = ends.heads; nils = ends.nils; filled = (filled_bucket v4 place ∷ [], ends.filled) });
           unspent = inl (sym read_same.1 ∙ builds.unspent);
           spent = ends.spent ∙ builds.spent ∙ read_same.1;
           steps = record {

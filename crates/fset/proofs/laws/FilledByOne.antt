@@ -25,7 +25,7 @@ use Rattle.fset.proofs.laws.Closing.{closed_content, closed_holds, closed_keys, 
 use Rattle.fset.proofs.laws.Frames.{keys_of-row}
 use Rattle.fset.proofs.laws.Sources.{split_class, split_fewer, split_from, split_has, split_source}
 use Rattle.fset.proofs.laws.Splitting.{split-rises}
-use Rattle.fset.proofs.laws.Filling.{built_grown, built_own, built_steps, built_turn, filling_within, may_fill, refused_from}
+use Rattle.fset.proofs.laws.Filling.{built_grown, built_own, built_steps, built_turn, filling_within, may_fill, refused_from, built_notes}
 use Rattle.fset.proofs.laws.Freezing.{froze_one}
 
 module _ (filling : Filling) (v0 : PassView) (f : IsFilling v0 filling) (sound : IsSound v0) where
@@ -109,8 +109,8 @@ module _ (filling : Filling) (v0 : PassView) (f : IsFilling v0 filling) (sound :
           bound = builds.bound;
         };
         own = built_own v0 v1 v2 read closes.grows closes.only builds.only;
-        turn = (built_turn v0 v1 v2 read closes.grows closes.only builds.only).0;
-        filled = (built_turn v0 v1 v2 read closes.grows closes.only builds.only).1;
+        turn = built_turn v0 v1 v2 read closes.grows closes.only builds.only;
+        notes = built_notes v0 v1 v2 read closes.grows closes.only builds.only;
         unspent = sym (ap (λ (view : PassView). view.spent) closes.only) ∙ builds.unspent;
         spent = builds.spent ∙ ap (λ (view : PassView). view.spent) closes.only;
         steps = split_steps (row_cost (length split)) builds.steps;
@@ -136,8 +136,8 @@ module _ (filling : Filling) (v0 : PassView) (f : IsFilling v0 filling) (sound :
         );
       };
       own = built_own v0 v1 v2 read closes.grows closes.only refuses.only;
-      turn = (built_turn v0 v1 v2 read closes.grows closes.only refuses.only).0;
-      nils = ap (λ (view : PassView). view.nils) refuses.only ∙ ap (λ (view : PassView). view.nils) closes.only;
+      turn = built_turn v0 v1 v2 read closes.grows closes.only refuses.only;
+      notes = built_notes v0 v1 v2 read closes.grows closes.only refuses.only;
       full = refused_from refuses.words read 0 v0 v1 v2 closes.grows (ap (λ (view : PassView). view.spent) closes.only) refuses.full;
       steps = split_steps 0 refuses.steps;
       frozen = split_froze (ap (λ (view : PassView). view.known) refuses.only) (ap (λ (view : PassView). view.fixed) refuses.only)

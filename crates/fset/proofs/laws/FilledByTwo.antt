@@ -28,7 +28,7 @@ use Rattle.fset.proofs.laws.Joining.{joined-rises, length-joined}
 use Rattle.fset.proofs.laws.Reading.{seen_stays}
 use Rattle.fset.proofs.laws.Sources.{joined_class, joined_from, joined_high, joined_low, join_source, other_source, sources_within}
 use Rattle.fset.proofs.laws.Freezing.{froze_two}
-use Rattle.fset.proofs.laws.Filling.{built_grown, built_own, built_steps, built_turn, fill_steps_then, filling_within, may_fill, refused_from, source_word}
+use Rattle.fset.proofs.laws.Filling.{built_grown, built_own, built_steps, built_turn, fill_steps_then, filling_within, may_fill, refused_from, source_word, built_notes}
 
 module _ (filling : Filling) (v0 : PassView) (f : IsFilling v0 filling) (sound : IsSound v0) where
   module _ (two : filling.before ≡ filling.exponent + 1) (low high : Seen) (v1 v2 : PassView)
@@ -194,8 +194,8 @@ module _ (filling : Filling) (v0 : PassView) (f : IsFilling v0 filling) (sound :
           bound = builds.bound;
         };
         own = built_own v0 v2 v3 both_read closed_grown closed builds.only;
-        turn = (built_turn v0 v2 v3 both_read closed_grown closed builds.only).0;
-        filled = (built_turn v0 v2 v3 both_read closed_grown closed builds.only).1;
+        turn = built_turn v0 v2 v3 both_read closed_grown closed builds.only;
+        notes = built_notes v0 v2 v3 both_read closed_grown closed builds.only;
         unspent = sym (ap (λ (view : PassView). view.spent) closed) ∙ builds.unspent;
         spent = builds.spent ∙ ap (λ (view : PassView). view.spent) closed;
         steps = joint_steps v3 (row_cost (length joint)) builds.steps;
@@ -228,8 +228,8 @@ module _ (filling : Filling) (v0 : PassView) (f : IsFilling v0 filling) (sound :
             );
           };
           own = built_own v0 v2 v3 both_read closed_grown closed refuses.only;
-          turn = (built_turn v0 v2 v3 both_read closed_grown closed refuses.only).0;
-          nils = ap (λ (view : PassView). view.nils) refuses.only ∙ ap (λ (view : PassView). view.nils) closed;
+          turn = built_turn v0 v2 v3 both_read closed_grown closed refuses.only;
+          notes = built_notes v0 v2 v3 both_read closed_grown closed refuses.only;
           full = refused_from refuses.words both_read 0 v0 v2 v3 closed_grown (ap (λ (view : PassView). view.spent) closed) refuses.full;
           steps = joint_steps v3 0 refuses.steps;
           frozen = joint_froze v3 (ap (λ (view : PassView). view.known) refuses.only) (ap (λ (view : PassView). view.fixed) refuses.only)

@@ -19,12 +19,12 @@ use Rattle.cells.specs.Known.{IsBucketWord, KnowsGeneration}
 use Rattle.cells.specs.Sound.{IsSound}
 use Rattle.cells.specs.Tokens.{BlockValue}
 use Rattle.cells.proofs.laws.Known.{bucket_word_stays, knows_more}
-use Rattle.fset.specs.Ensuring.{IsFilling, IsSource, OnlyCloses, OnlyFillSteps, OnlyFills}
+use Rattle.fset.specs.Ensuring.{IsFilling, IsSource, KeepsNotes, OnlyCloses, OnlyFillSteps, OnlyFills}
 use Rattle.fset.specs.Frames.{Grows, KeepsOwn}
 use Rattle.fset.specs.Rows.{IsOutOfWords, OnlyBuilds, Overdrew, WasSpent}
 use Rattle.fset.specs.declared.ensuring.Filling.{Filling}
 use Rattle.fset.proofs.laws.Closing.{closes_own}
-use Rattle.fset.proofs.laws.Frames.{draws_grow, draws_own, grows_then, own_then}
+use Rattle.fset.proofs.laws.Frames.{behind_then, draws_grow, draws_own, grows_then, own_then}
 
 -- Steps that fill, and then further ones, are steps that fill.
 pub fill_steps_then : (before between after : StepCounts) → OnlyFillSteps before between → OnlyFillSteps between after
@@ -71,12 +71,25 @@ module _ (v0 v1 v2 : PassView) (learned : List Known) (closed : Grows learned 0 
     pub built_own : KeepsOwn v0 v2
     built_own = own_then v0 v1 v2 (closes_own v0 v1 only) (draws_own v1 v2 draws)
 
-    -- the open turn, and the buckets that are known to be filled
-    pub built_turn : (v2.turn ≡ v0.turn) × (v2.filled ≡ v0.filled)
-    built_turn = (
-      ap (λ (view : PassView). view.turn) draws ∙ ap (λ (view : PassView). view.turn) only,
-      ap (λ (view : PassView). view.filled) draws ∙ ap (λ (view : PassView). view.filled) only,
-    )
+    -- the open turn,
+    pub built_turn : v2.turn ≡ v0.turn
+    built_turn = ap (λ (view : PassView). view.turn) draws ∙ ap (λ (view : PassView). view.turn) only
+
+    -- and what was noted of heads and buckets
+    pub built_notes : KeepsNotes v0 v2
+    built_notes = record {
+      heads = ap (λ (view : PassView). view.heads) draws ∙ ap (λ (view : PassView). view.heads) only;
+      nils = ap (λ (view : PassView). view.nils) draws ∙ ap (λ (view : PassView). view.nils) only;
+      filled = ([], ap (λ (view : PassView). view.filled) draws ∙ ap (λ (view : PassView). view.filled) only);
+    }
+
+-- What was noted stays also over two parts of a call.
+pub notes_then : (old between new : PassView) → KeepsNotes old between → KeepsNotes between new → KeepsNotes old new
+notes_then old between new one two = record {
+  heads = two.heads ∙ one.heads;
+  nils = two.nils ∙ one.nils;
+  filled = behind_then old.filled between.filled new.filled one.filled two.filled;
+}
 
 -- Where a block was refused, it was so from before what drew nothing.
 pub refused_from : (words : ℕ) (learned : List Known) (losses : ℕ) (old between new : PassView) → Grows learned 0 losses old between

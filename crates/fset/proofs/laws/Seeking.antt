@@ -191,7 +191,7 @@ module _ (head key : ℕ) (v0 v1 v2 : PassView) (nil : LoadedBucket) (heads : Lo
       let before = ap (λ (made : StepCounts). made.bucket_loads) nil_made in
       record {
         nil = record { at = head; bucket = number; front = finds.loads.history };
-        nils = refuses.nils
+        nils = refuses.notes.nils
             ∙ nil_noted nil.place between nil.word v2 finds.loads is_nil head number finds.generation
             (sound_counted v1 between.made sound) finds.is_word
             ∙ ap (λ (view : PassView). record { at = head; bucket = number; front = finds.loads.history } ∷ view.nils) heads.view;

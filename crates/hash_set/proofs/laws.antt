@@ -10,3 +10,4 @@ pub mod Making
 pub mod Idle
 pub mod Looking
 pub mod Trying
+pub mod Playing

@@ -1,5 +1,5 @@
 -- What tests with several threads keep of their passes.
-use Rattle.std.specs.Prelude.{◌≡◌, List, All, None}
+use Rattle.std.specs.Prelude.{◌≡◌, ℕ, ◌<◌, List, length, slice_index_or, All, None}
 use Rattle.cells.specs.Ends.{AreAllPasses}
 use Rattle.cells.specs.Tokens.{IsPassOf, PassValue, RoundValue}
 
@@ -18,3 +18,9 @@ pub record Keeps (round : RoundValue) (old new : PassValue) : Type 0 where
 pub record AreIdle (round : RoundValue) (passes : List PassValue) : Type 0 where
   pub all : AreAllPasses round passes
   pub idle : All (IsIdle round) passes
+
+-- each of the passes is so then, and is the pass of its number
+pub record KeepEach (round : RoundValue) (old new : List PassValue) : Type 0 where
+  pub long : length new ≡ length old
+  pub each : (k : ℕ) (d : PassValue) → k < length old
+      → Keeps round (slice_index_or old k d) (slice_index_or new k d)

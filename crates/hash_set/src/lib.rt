@@ -3,6 +3,7 @@
 //! A *round* is a row of words that holds the set. A *pass* is a caller's token in it: `insert`,
 //! `remove` and `contains` take one, and wait for nobody. The round has one *history*, the list of
 //! the calls that changed the set, each with its answer; a pass's *front* is what it has seen of it.
+//! `grow` and `shrink` resize the table, beside all other calls, and no answer tells of it.
 //!
 //! The promise: every answer stands for its pass (`AnswerStands` of `fset`'s `specs/Standing.antt`).
 //! A call that changed the set has its entry in the history, past all that the pass had seen; one
@@ -15,6 +16,7 @@
 mod lookup;
 mod writing;
 
+pub use buckets::{Resized, exponent, grow, shrink};
 pub use fset::{Answered, Outcome};
 pub use lookup::contains;
 pub use writing::{insert, remove};

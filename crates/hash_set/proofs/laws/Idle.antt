@@ -9,8 +9,8 @@ use Rattle.cells.specs.Tokens.{IsPassOf, PassValue, RoundValue, fresh_pass, fres
 use Rattle.cells.proofs.laws.Fresh.{fresh_all}
 use Rattle.hash_set.specs.Tests.{AreIdle, IsIdle}
 
--- lists of one length with the same numbers, place by place, have the same numbers
-numbers_same : (xs ys : List PassValue) → length ys ≡ length xs
+-- Lists of one length with the same numbers, place by place, have the same numbers.
+pub numbers_same : (xs ys : List PassValue) → length ys ≡ length xs
     → ((k : ℕ) (d : PassValue) → k < length xs → (slice_index_or ys k d).view.number ≡ (slice_index_or xs k d).view.number)
     → map (λ (pass : PassValue). pass.view.number) ys ≡ map (λ (pass : PassValue). pass.view.number) xs
 numbers_same [] [] long each = refl

@@ -56,6 +56,7 @@ pub record AnswersTurn (serial : ℕ) (call : Call) (key : ℕ) (answered : Answ
   pub width : IsWidth call key answered.width spends.learned new
   pub spent : new.spent ≡ old.spent
   pub unfilled : DrawsOneRow spends.words (length spends.wide) old new
+  pub closed : answered.changed ≡ true → new.turn ≡ None
   pub reads : answered.changed ≡ false → spends.words ≤ row_cost (length spends.wide)
       × DrawsToFill spends.words old new
 
@@ -76,6 +77,7 @@ pub record LosesTurn (call : Call) (key : ℕ) (old new : PassView) : Type 0 whe
   pub cause : LosesExchange call key old new ⊎ FindsFrozen old new
   pub unspent : (old.spent ≡ None) ⊎ (spends.words ≡ 0)
   pub unfilled : DrawsOneRow spends.words (length spends.wide) old new
+  pub closed : new.turn ≡ None
   pub spent : new.spent ≡ old.spent
   pub others : old.facts.seats ≢ 1
 

@@ -19,8 +19,8 @@ use step_core::FIRST_KEY;
 /// one exchange of the bucket, and has an entry in the history then. It is Lost only to another pass:
 /// where that exchange was lost, or the bucket was frozen when it was loaded, so that none was made;
 /// and Full only where the pass was spent, or a draw for its row or for one to fill the bucket with
-/// passed the end. The call then has no entry. Where an exchange was made or the bucket was frozen no
-/// turn is open, and else the turn stays open.
+/// passed the end. The call then has no entry. Where its row was exchanged, or it is Lost, no turn is
+/// open.
 ///
 /// After Liu, Zhang and Spear, Dynamic-sized nonblocking hash tables (PODC 2014).
 pub fn turn(round: &Round, pass: &mut Pass, call: Call, key: u64) -> Turn

@@ -136,6 +136,7 @@ frozen_turn call key old new frozen sound = record {
     let none = (frozen.unfilled same).0 in omega (arith, none),
     none_frozen old new frozen.for_fills same,
   );
+  closed = frozen.closed;
   spent = frozen.spent;
   others = λ alone.
       let none = sound.lone (ap (λ (facts : RoundFacts). facts.seats) frozen.spends.grows.facts ∙ alone) in
@@ -248,6 +249,7 @@ module _ (key : ℕ) (call : Call) (v0 v1 v2 : PassView) (sought : Sought) (seek
       record {
         spends = spends_more row_cost (turns_cost 1) 0 v0 v2 row_in_turn spends;
         unfilled = λ fills. (let none = (unfilled fills).0 in omega (arith, none), unfrozen fills);
+        closed = λ changed. absurd (cc);
         reads = λ unchanged. (spends.bound, unfilled);
         spent = spent_same;
         stands = record { own = way.own; answer_is = sym answer ∙ ap (answer_where call) (is ∙ content) };
@@ -400,6 +402,7 @@ module _ (key : ℕ) (call : Call) (v0 v1 v2 : PassView) (sought : Sought) (seek
             unspent = inl unspent;
             unfilled = plain_turn built.spends.words v4 refl (ap (λ (view : PassView). view.made.fills) lost.view_is)
                 (ap (λ (view : PassView). view.made.freezes) lost.view_is);
+            closed = ap (λ (view : PassView). view.turn) lost.view_is;
             spent = ap (λ (view : PassView). view.spent) lost.view_is ∙ builds.spent ∙ spent_same;
             others = subst (λ (facts : RoundFacts). facts.seats ≢ 1) built.spends.grows.facts lost.others;
           }
@@ -441,6 +444,7 @@ module _ (key : ℕ) (call : Call) (v0 v1 v2 : PassView) (sought : Sought) (seek
           stands = entered idle;
           unfilled = plain_turn built.spends.words v4 refl (ap (λ (view : PassView). view.made.fills) won.view_is)
               (ap (λ (view : PassView). view.made.freezes) won.view_is);
+          closed = λ changed. ap (λ (view : PassView). view.turn) won.view_is;
           reads = λ unchanged. absurd (cc);
           spent = ap (λ (view : PassView). view.spent) won.view_is ∙ builds.spent ∙ spent_same;
           width = record {

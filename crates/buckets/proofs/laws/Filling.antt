@@ -1,8 +1,7 @@
 -- A bucket that is loaded, and filled where it is nil; and several of them.
 use Rattle.std.proofs.lemmas.Nat.{mul-le}
 use Rattle.std.proofs.lemmas.Bool.{cases_lt}
-use Rattle.std.proofs.lemmas.Bool.Decides.{nat_tests}
-use Rattle.std.proofs.Common.{◌≡◌, ◌≢◌, ℕ, ◌+◌, ◌*◌, ◌^◌, ◌<◌, ◌≤◌, ◌⊎◌, ◌&&◌, ◌||◌, Bool, true, cond, nat_eq, List, [], ◌∷◌, ◌++◌, length, Option, None, inl, inr, ⊎_elim, refl, sym, ap, ◌∙◌, subst, add-zero, zero-add, append_assoc, length-append, arith}
+use Rattle.std.proofs.Common.{◌≡◌, ◌≢◌, ℕ, ◌+◌, ◌*◌, ◌^◌, ◌<◌, ◌≤◌, ◌⊎◌, Bool, true, cond, List, [], ◌∷◌, ◌++◌, length, Option, None, inl, inr, ⊎_elim, refl, sym, ap, ◌∙◌, subst, add-zero, zero-add, append_assoc, length-append, arith}
 use base.Growing.{prefix_refl}
 use Rattle.step_core.specs.Format.{IsNil, row_address}
 use Rattle.step_core.specs.declared.format.TheConstants.{FIRST_BUCKET}
@@ -23,12 +22,12 @@ use Rattle.cells.proofs.laws.BucketLoads.{is_nil-nil, is_nil-other, load_bucket_
 use Rattle.cells.proofs.laws.Known.{generation_at-known, knows_more}
 use Rattle.fset.specs.Ensuring.{EnsuresFilled, KeepsNotes, KnowsBucketAt, OnlyFills, RefusesFilling}
 use Rattle.fset.specs.Frames.{Grows, IsBehind, KeepsOwn, Spends, filling_cost, row_cost}
-use Rattle.fset.specs.Rows.{IsOutOfWords, OverdrewAfter, Overdrew, WasSpent}
+use Rattle.fset.specs.Rows.{IsOutOfWords, Overdrew, WasSpent}
 use Rattle.fset.proofs.laws.Closing.{is_among-first}
 use Rattle.fset.proofs.laws.Filling.{refused_from}
-use Rattle.fset.proofs.laws.Frames.{behind_self, behind_then, keys_of-none, own_then, spends_both, spends_more}
+use Rattle.fset.proofs.laws.Frames.{behind_self, behind_then, keys_of-none, own_then, spends_both}
 use Rattle.fset.proofs.laws.Looking.{bucket_grown, bucket_own, nil_noted}
-use Rattle.buckets.specs.Filling.{AreFills, Fills, FillsFirst, FillsOne, IsFilledBucket, KnowsExponent, LosesOpenTurn, RefusesFirst, RefusesOne, buckets_of, nils_cost}
+use Rattle.buckets.specs.Filling.{AreFills, Fills, FillsFirst, FillsOne, IsFilledBucket, KnowsExponent, RefusesFirst, RefusesOne, buckets_of, nils_cost}
 use Rattle.buckets.proofs.laws.Losing.{LosesTurns, load_loses, loses_then}
 
 -- what costs nothing

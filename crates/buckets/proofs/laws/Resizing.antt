@@ -1,10 +1,9 @@
 -- How a resize ends, from the head and its buckets being loaded.
-use Rattle.std.proofs.Common.{◌≡◌, ◌≢◌, ℕ, ◌+◌, ◌^◌, ◌<◌, ◌≤◌, ◌⊎◌, List, [], ◌∷◌, ◌++◌, length, None, inl, inr, ⊎_elim, refl, sym, ap, ◌∙◌, subst, add-zero, zero-add, arith}
+use Rattle.std.proofs.Common.{◌≡◌, ◌≢◌, ℕ, ◌+◌, ◌^◌, ◌<◌, ◌≤◌, ◌⊎◌, List, [], ◌∷◌, ◌++◌, length, None, inl, inr, ⊎_elim, refl, sym, ap, ◌∙◌, subst, add-zero, arith}
 use base.Growing.{prefix_refl}
 use Rattle.step_core.specs.Format.{base_of}
 use Rattle.step_core.specs.Limits.{max_exponent}
 use Rattle.step_core.specs.declared.published.Published.TheVariants.{Generation}
-use Rattle.step_core.specs.declared.published.GenerationBlock.{GenerationBlock}
 use Rattle.step_core.specs.declared.views.HeadLoad.{HeadLoad}
 use Rattle.step_core.specs.declared.views.Known.{Known}
 use Rattle.step_core.specs.declared.views.NilBucket.{NilBucket}
@@ -15,16 +14,14 @@ use Rattle.cells.specs.Frames.{OnlyDraws, after_reads}
 use Rattle.cells.specs.HeadSwaps.{LosesHead, MaySwapHead, SwapsHead, next_generation}
 use Rattle.cells.specs.Known.{known_block, KnowsGeneration}
 use Rattle.cells.specs.Lone.{latest_head}
-use Rattle.cells.specs.Steps.{LoadsHead}
 use Rattle.cells.proofs.laws.HeadLoads.{load_head_knows}
 use Rattle.cells.proofs.laws.Known.{knows_more}
-use Rattle.fset.specs.Frames.{Grows, KeepsOwn, Spends}
-use Rattle.fset.specs.Rows.{IsOutOfWords, Overdrew, OverdrewAfter, WasSpent}
+use Rattle.fset.specs.Frames.{Grows, KeepsOwn}
+use Rattle.fset.specs.Rows.{Overdrew, OverdrewAfter, WasSpent}
 use Rattle.fset.proofs.laws.Frames.{behind_self, draws_grow, draws_own, grows_then, keys_of-none, own_then, reads_grow, reads_own, spends_after, spends_before, spends_both, spends_more}
 use Rattle.fset.proofs.laws.Looking.{head_grows}
 use Rattle.buckets.specs.Filling.{FillsFirst, KnowsExponent, LosesOpenTurn, RefusesFirst, buckets_of, nils_cost}
 use Rattle.buckets.specs.Resizing.{BuildsNext, ChangesHead, FindsMoved, IsReady, LoadsExponent, RefusesNext, RefusesResize, Resizes, generation_cost, resize_cost}
-use Rattle.buckets.specs.declared.resizing.Way.{Way}
 use Rattle.buckets.proofs.laws.Filling.{filled_still, nils_cost_rises}
 
 -- At most one turn is lost.

@@ -1,5 +1,8 @@
 // Rounds without room for all that a resize draws. As in `lone`, the row of 1 is at 10, and the first growth
 // leaves NEXT at 18.
+ghost use Rattle.std.specs.Prelude.{◌≡◌, ◌≤◌, IfOk};
+ghost use Rattle.cells.specs.Tokens.{IsPassOf};
+
 use super::*;
 
 // A round in which 1 was inserted, with so many words of room and its pass.

@@ -2,6 +2,8 @@
 ghost use Rattle.std.specs.Prelude.{◌≡◌, IfOk, IfSome};
 ghost use Rattle.cells.specs.HeadSwaps.{MaySwapHead};
 ghost use Rattle.cells.specs.Tokens.{IsPassOf, IsSamePass, fresh_pass};
+ghost use Rattle.step_core.specs.Fits.{IsWellFormed};
+ghost use Rattle.step_core.specs.Plain.{HasPlainRows};
 
 use super::*;
 use crate::resizing::{build_next, fill_head, load_head};
@@ -49,7 +51,9 @@ fn ready_to_grow(round: &Round, pass: &mut Pass) -> Option<Ready>
 {
     let head = load_head(round, pass);
     round.sound(pass);
-    let exponent = Way::Grow.next(head.exponent)?;
+    let Some(exponent) = Way::Grow.next(head.exponent) else {
+        return None;
+    };
     let Ok(()) = fill_head(round, pass, head) else {
         return None;
     };

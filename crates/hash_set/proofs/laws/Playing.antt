@@ -1,13 +1,14 @@
 -- Passes of which one after another acts stay idle, each with its number.
 use Rattle.std.proofs.Common.{◌≡◌, ℕ, ◌<◌, List, [], ◌∷◌, ◌++◌, length, map, set, slice_index_or, All, refl, sym, ap, ap₂, ◌∙◌, subst, arith}
 use Rattle.std.proofs.lemmas.Grind.{get_or-set_at}
-use Rattle.std.proofs.lemmas.List.{get_or-set_other, length-set, map-append}
+use Rattle.std.proofs.lemmas.List.{get_or-set_other, length-append, length-set, map-append}
+use Rattle.std.proofs.Math.Seq.{get_or-append_seam}
 use Rattle.std.proofs.lemmas.List.Elements.{All-append}
 use Rattle.std.specs.List.{range_with_len}
 use Rattle.std.specs.List.Sorted.{IsPermutation}
 use native.Mathlib.Decide.{ℕ_discrete}
 use Rattle.cells.specs.Ends.{AreAllPasses}
-use Rattle.cells.specs.Tokens.{IsPassOf, PassValue, RoundValue}
+use Rattle.cells.specs.Tokens.{IsPassOf, IsSamePass, PassValue, RoundValue}
 use Rattle.hash_set.specs.Tests.{AreIdle, IsIdle, KeepEach, Keeps}
 use Rattle.hash_set.proofs.laws.Idle.{first_plan, numbers_same, still_idle}
 
@@ -58,19 +59,22 @@ module _ (round : RoundValue) where
 
   -- So are they with one behind them that acted apart from them.
   pub all_with_last : (others new : List PassValue) (last after : PassValue) → AreAllPasses round (others ++ last ∷ [])
-      → KeepEach round others new → IsPassOf round after → after.view.number ≡ last.view.number → AreAllPasses round (new ++ after ∷ [])
-  all_with_last others new last after all kept ours number =
+      → KeepEach round others new → IsSamePass last after → AreAllPasses round (new ++ after ∷ [])
+  all_with_last others new last after all kept same =
       let number_of : PassValue → ℕ = λ pass. pass.view.number in
-      let same : map number_of (new ++ after ∷ []) ≡ map number_of (others ++ last ∷ []) =
+      let numbers : map number_of (new ++ after ∷ []) ≡ map number_of (others ++ last ∷ []) =
       map-append number_of new (after ∷ [])
       ∙ ap₂ (λ (ns ms : List ℕ). ns ++ ms) (numbers_same others new kept.long (λ k d within. (kept.each k d within).number))
-      (ap (λ (n : ℕ). n ∷ []) number)
+      (ap (λ (n : ℕ). n ∷ []) same.number)
       ∙ sym (map-append number_of others (last ∷ [])) in
+      let own : IsPassOf round last = subst (IsPassOf round) (get_or-append_seam others last [] last)
+      (all.ours (length others) last (omega (arith, length-append others (last ∷ [])))) in
+      let ours : IsPassOf round after = record { table = same.table ∙ own.table; facts = same.facts ∙ own.facts } in
       record {
         ours = All-append (IsPassOf round) new (after ∷ []) (λ k d within. (kept_idle others new kept k d within).ours)
             (λ k d within. elim (ℕ_discrete k 0) [
               | yes first ↦ subst (λ (place : ℕ). IsPassOf round (slice_index_or (after ∷ []) place d)) (sym first) ours
               | no apart ↦ absurd (omega (arith, within, apart))
             ]);
-        once = subst (λ (numbers : List ℕ). IsPermutation numbers (range_with_len 0 round.facts.seats)) (sym same) all.once;
+        once = subst (λ (list : List ℕ). IsPermutation list (range_with_len 0 round.facts.seats)) (sym numbers) all.once;
       }

@@ -14,6 +14,7 @@ use std::alloc::Global;
 use std::test::Fail;
 use step_core::{Layout, MAX_CALLS, Words, opening, opening_words};
 
+mod resizing;
 mod rows;
 mod threads;
 

@@ -28,7 +28,7 @@ enum Work {
 }
 
 // Whether the call changed the set.
-fn has_changed(outcome: Option<Outcome>) -> bool {
+pub(super) fn has_changed(outcome: Option<Outcome>) -> bool {
     match outcome {
         Some(Outcome::Done(answered)) => answered.changed,
         _ => false,
@@ -36,7 +36,13 @@ fn has_changed(outcome: Option<Outcome>) -> bool {
 }
 
 // A call at the key, which marks its id where it changed the set.
-fn call_and_mark(round: &Round, pass: &mut Pass, call: Call, id: u64, marks: &[AtomicU64])
+pub(super) fn call_and_mark(
+    round: &Round,
+    pass: &mut Pass,
+    call: Call,
+    id: u64,
+    marks: &[AtomicU64],
+)
     requires pass { IsIdle round.now pass.old }
     requires marks { id ≤ length marks.now }
     requires some { 1 ≤ id }

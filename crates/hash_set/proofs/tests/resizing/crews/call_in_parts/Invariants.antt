@@ -1,0 +1,6 @@
+use Rattle.hash_set.specs.Tests.{Keeps}
+use Rattle.hash_set.proofs.tests.resizing.crews.call_in_parts.Given as goal
+
+-- the pass is idle, and that of the number
+abbrev pub invariant-loop-k : goal.invariant-loop-k
+invariant-loop-k l = Keeps l.round l.fn.pass l.pass

@@ -27,11 +27,12 @@ const OWN: u64 = 20;
 // The first of a hundred keys that are in the set all the time. Those between them never are.
 const FIRST_KEPT: u64 = 2000;
 
-// How many generations a thread tries to put in: up six times, down six times, and so on.
-const RESIZES: u64 = 120;
+// How many generations a thread tries to put in: up six times, down six times, and so on. It is a
+// multiple of twelve, so that a table ends as it began.
+const RESIZES: u64 = 1008;
 
 // The words of room, which are enough if each call is made in one bucket, and lost to all other threads.
-const ROOM: u64 = 3_000_000;
+const ROOM: u64 = 8_000_000;
 
 // Marks for the ids and the threads' own keys, then one for the generations that were put in, and one
 // for answers that were wrong.
@@ -61,7 +62,7 @@ enum Role {
 enum Crew {
     // Four that do the same, and one that puts in generations.
     Four(Role),
-    // Two that put in generations, two that change their own keys, and others that only read.
+    // Two that put in generations, four that change their own keys, and others that only read.
     Readers,
 }
 
@@ -72,7 +73,7 @@ impl Crew {
             Crew::Four(role) if number < 4 => role,
             Crew::Four(_) => Role::Resize,
             Crew::Readers if number < 2 => Role::Resize,
-            Crew::Readers if number < 4 => Role::Change,
+            Crew::Readers if number < 6 => Role::Change,
             Crew::Readers => Role::Read,
         }
     }
@@ -316,7 +317,7 @@ fn four_threads_change_each_id_once_while_one_resizes(rt: HostRuntime) -> Result
     Ok(())
 }
 
-// The keys of the set, a hundred of which are there from the beginning, once two threads changed their
+// The keys of the set, a hundred of which are there from the beginning, once four threads changed their
 // own keys, while two put in generations and two looked keys up.
 fn kept_keys_left<R: Threads + Sync>(
     rt: &R,
@@ -326,7 +327,7 @@ fn kept_keys_left<R: Threads + Sync>(
     requires marks { MARKS ≤ length marks.now }
 {
     let kept = spaced(alloc, FIRST_KEPT, 2)?;
-    let (round, passes) = begin(alloc, 6, kept.as_slice(), 1_000_000, ROOM)?;
+    let (round, passes) = begin(alloc, 8, kept.as_slice(), 1_000_000, ROOM)?;
     let passes = work_together(rt, &round, passes, Crew::Readers, marks);
     let words = ended(alloc, round, passes)?;
     live_keys(alloc, &words)
@@ -340,7 +341,7 @@ fn readers_find_what_is_kept_while_two_resize(rt: HostRuntime) -> Result<(), Fai
     assert_eq!(rt; marks[WRONG].load(SeqCst), 0);
     assert!(rt; marks[HEADS].load(SeqCst) > 0);
     let mut expected = Vec::new(rt.alloc());
-    push_marked(&mut expected, &marks, FIRST_OWN + 2 * OWN, 2 * OWN)?;
+    push_marked(&mut expected, &marks, FIRST_OWN + 2 * OWN, 4 * OWN)?;
     for key in spaced(rt.alloc(), FIRST_KEPT, 2)? {
         expected.push(key)?;
     }

@@ -1,3 +1,4 @@
 pub mod Losing
 pub mod Filling
 pub mod Resizing
+pub mod Passes

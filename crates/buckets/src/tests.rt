@@ -19,6 +19,7 @@ use step_core::{Layout, MAX_CALLS, Words, live_keys, opening, opening_words};
 mod full;
 mod lone;
 mod races;
+mod threads;
 
 // A round that begins with these keys, and has so many words of room.
 fn begin_round(
@@ -27,9 +28,9 @@ fn begin_round(
     keys: &[u64],
     room: u64,
 ) -> Result<(Round, Vec<Pass>), NoMemory>
-    requires seats { (1 ≤ seats) × (seats ≤ 2) }
+    requires seats { (1 ≤ seats) × (seats ≤ 4) }
     requires rising { IsStrictlyIncreasing keys.now }
-    requires few { (length keys.now ≤ 1000) × (room ≤ 1000) }
+    requires few { (length keys.now ≤ 1000) × (room ≤ 1000000) }
     ensures passes { IfOk result (λ r. r.1.items ≡ fresh_passes r.0) }
     ensures seats { IfOk result (λ r. r.0.facts.seats ≡ seats) }
 {

@@ -1,4 +1,6 @@
 pub mod Losing
 pub mod Filling
 pub mod Resizing
+pub mod AloneFilling
+pub mod AloneResizing
 pub mod Passes

@@ -2,6 +2,7 @@ mod LawClosing
 mod LawCrews
 mod LawCuts
 mod LawEnds
+mod LawGrowing
 mod LawHands
 mod LawInputs
 mod LawInserted

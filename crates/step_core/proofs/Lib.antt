@@ -3,3 +3,4 @@ pub mod tables
 pub mod seen
 pub mod Limits
 pub mod changes
+pub mod ledgers

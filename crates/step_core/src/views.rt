@@ -190,8 +190,9 @@ pub struct PassView {
     pub front: LinkedList<Entry>,
     /// The front of a note that it took, of which it hasn't learned yet which is longer.
     pub heard: LinkedList<Entry>,
-    /// The history as far as it had come at the pass's last load of HEAD or of a bucket, or at its last
-    /// exchange that was won. It has an insert of each key of a known row that the opening didn't have.
+    /// The history as far as it had come at the pass's last load of HEAD or of a bucket, at its last freeze,
+    /// or at its last exchange that was won. It has an insert of each key of a known row that the opening
+    /// didn't have.
     pub horizon: LinkedList<Entry>,
     /// The published blocks that it knows, the latest first.
     pub known: LinkedList<Known>,

@@ -1,6 +1,7 @@
 pub mod Fronts
 pub mod Lone
 pub mod LoneRound
+pub mod Outcomes
 pub mod Drawing
 pub mod Sound
 pub mod Counted

@@ -90,3 +90,12 @@ pub record SameLedger (old new : PassView) : Type 0 where
 pub record EndsAs (outcome : Outcome) (full : Bool) (new : PassView) : Type 0 where
   pub is_full : full ≡ outcome.full
   pub ledger : ledger_of new ≡ outcome.ledger
+
+-- where the pass is the only one, a call ended as this one of the ledger does
+abbrev pub EndsAlone : (Ledger → Outcome) → Bool → PassView → PassView → Type 0
+EndsAlone call full old new = old.facts.seats ≡ 1 → EndsAs (call (ledger_of old)) full new
+
+-- the bucket is one of the head, and is nil, as far as the pass knows
+pub record IsNilOfHead (head bucket : ℕ) (view : PassView) : Type 0 where
+  pub is_head : head ≡ head_at view
+  pub untouched : is_untouched view bucket ≡ true

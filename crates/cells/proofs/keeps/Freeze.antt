@@ -1,32 +1,44 @@
 -- The freeze of a bucket keeps the invariant: the set stays as it was, and each turn that it may lose was overtaken already.
-use Rattle.std.proofs.Common.{◌≡◌, ◌≢◌, ℕ, List, [], ◌∷◌, ◌++◌, refl, sym, ap, ◌∙◌, subst, arith, All}
+use Rattle.std.proofs.Common.{◌≡◌, ◌≢◌, ℕ, ◌^◌, true, List, [], ◌∷◌, ◌++◌, refl, sym, ap, ◌∙◌, subst, arith, All}
 use mathlib.Core.Option.{some}
 use lib.ListN.{get_elem?}
 use base.Growing.{prefix_refl}
 use Rattle.std.proofs.lemmas.List.Elements.{All-nil, All-cons}
+use Rattle.std.proofs.lemmas.Nat.{mod_below, pow_pos}
 use Rattle.std.proofs.Math.Nat.{mod-eq_of_lt}
 use Rattle.atomic_table.specs.Table.{Step as TableStep}
+use Rattle.set_model.specs.History.{members_after}
+use Rattle.set_model.specs.Keys.{is_in}
 use Rattle.set_model.specs.declared.entry.Entry.{Entry}
-use Rattle.step_core.specs.Fits.{IsPublished}
+use Rattle.step_core.specs.Buckets.{key_bucket}
+use Rattle.step_core.specs.Content.{spot_of, InClass}
+use Rattle.step_core.specs.Fits.{IsPublished, predecessor_of}
 use Rattle.step_core.specs.Format.{row_address}
+use Rattle.step_core.specs.Members.{bucket_cell, live_cell}
 use Rattle.step_core.specs.States.{RoundState, IsGeneration}
 use Rattle.step_core.specs.declared.kinds.Step.TheVariants.{Freeze}
 use Rattle.step_core.specs.declared.published.Published.TheVariants.{Row}
+use Rattle.step_core.specs.declared.published.GenerationBlock.{GenerationBlock}
 use Rattle.step_core.specs.declared.views.PassView.{PassView}
 use Rattle.step_core.specs.declared.views.RoundFacts.{RoundFacts}
 use Rattle.step_core.proofs.changes.Frozen.{head_cells, ops_same}
-use Rattle.cells.specs.Freezing.{MayFreeze, FreezesBucket, frozen_cell}
+use Rattle.step_core.proofs.seen.Held.{bucket_cell-there, live_cell-predecessor, row_content-plain, is_held-row}
+use Rattle.cells.specs.Freezing.{MayFreeze, FreezesAlone, FreezesBucket, frozen_cell}
 use Rattle.cells.specs.Invariant.{HoldsRound, IsFrozenCell}
-use Rattle.cells.specs.Known.{known_block}
+use Rattle.cells.specs.Known.{known_block, IsBucketWord}
 use Rattle.cells.specs.Lone.{head_at, head_generation, first_generation, is_untouched, KnowsTable, SameLedger}
 use Rattle.cells.specs.Moves.{Moved, Moves, freeze_tells}
 use Rattle.cells.specs.Paid.{wins_of, IsPaid}
 use Rattle.cells.proofs.keeps.LoadBucket.{row_home}
+use Rattle.cells.proofs.keeps.MarkBucket.{one_bucket}
 use Rattle.cells.proofs.laws.Given.{given_published}
 use Rattle.cells.proofs.laws.Hindsight.{hindsight_keeps}
+use Rattle.cells.proofs.laws.Known.{generation_at-known}
 use Rattle.cells.proofs.laws.Lone.{generation_in-stays, is_untouched-same, same_ledger, table_stays}
+use Rattle.cells.proofs.laws.LoneRound.{lone_front}
+use Rattle.cells.proofs.laws.Sound.{sound_view}
 use Rattle.cells.proofs.parts.Flying.{flying_same}
-use Rattle.cells.proofs.parts.MadeFreeze.{MadeFreeze, found, freezes, some_row, home, row, new_view, new_cells, after, new_words, stands, buckets_stay, fixed_stay, cell_frozen, standing}
+use Rattle.cells.proofs.parts.MadeFreeze.{MadeFreeze, found, lookup, here, shown, freezes, some_row, home, row, new_view, new_cells, after, new_words, stands, buckets_stay, fixed_stay, cell_frozen, standing}
 use Rattle.cells.proofs.parts.PutState.{Sees, sum_by-put_same, there_inside, each_sees, put_state}
 use Rattle.cells.proofs.parts.PutView.{account_stays, whole_stays}
 use Rattle.cells.proofs.parts.StillPaid.{paid_same, paid_unless_head}
@@ -108,6 +120,55 @@ module _ {facts : RoundFacts} {words : List ℕ} {state : RoundState} {history :
     ledger_stays : SameLedger s.old (new_view s)
     ledger_stays = same_ledger s.old (new_view s) refl same_generation same_untouched refl refl refl
 
+    module _ (bucket : ℕ) (source : GenerationBlock)
+        (is_word : IsBucketWord s.old s.place (head_generation s.old).predecessor bucket source) (key : ℕ)
+        (class : InClass source.exponent bucket key)
+        (untouched : is_untouched s.old (key_bucket (head_generation s.old).exponent key) ≡ true) where
+      -- the bucket that is frozen is that of the generation before the head's,
+      behind : (head_generation s.old).predecessor ≡ s.may.at
+      behind =
+          sym (generation_at-known s.old s.place (head_generation s.old).predecessor bucket source
+          (sound_view s.round s.old.number s.old s.there) is_word).0
+          ∙ (lookup s).0
+
+      -- the key is of it,
+      of_bucket : InClass s.may.generation.exponent s.may.bucket key
+      of_bucket =
+          let same = one_bucket s.old s.place (head_generation s.old).predecessor bucket s.may.at s.may.bucket source s.may.generation
+          (sound_view s.round s.old.number s.old s.there) is_word s.may.is_word in
+          subst (λ (z : GenerationBlock × ℕ). InClass z.0.exponent z.1 key) (λ i. (same.0 i, same.1 i)) class
+
+      -- and as its bucket of the head is nil, the bucket's cell is live
+      live : live_cell state.head state.blocks state.cells (spot_of key) ≡ found s
+      live =
+          let first : GenerationBlock = head_generation s.old in
+          let spot : ℕ = spot_of key in
+          let nil : bucket_cell state.blocks state.cells state.head spot ≡ 0 =
+          bucket_cell-there state.head state.blocks state.cells state.head spot first table.generation
+          ∙ table.nil (key_bucket first.exponent key) (mod_below spot (2 ^ first.exponent) (pow_pos first.exponent)) untouched in
+          live_cell-predecessor state.head state.blocks state.cells spot nil
+          ∙ ap (λ (a : ℕ). bucket_cell state.blocks state.cells a spot) (ap predecessor_of table.generation ∙ behind)
+          ∙ bucket_cell-there state.head state.blocks state.cells s.may.at spot s.may.generation (here s)
+          ∙ ap (state.cells s.may.at) of_bucket
+          ∙ sym (shown s)
+
+      -- so without an operation its row has the key where the set has it, all of which the pass has seen
+      row_agrees : (row s).op ≡ 0 → is_in (row s).keys key ≡ members_after (is_in s.old.facts.keys) s.old.front key
+      row_agrees none =
+          let facts_same = (s.round.fits.numbered s.old.number s.old s.there).same_round in
+          let front_same = lone_front s.round s.old.number s.old s.there alone in
+          sym (row_content-plain state.head state.blocks state.cells (row s) key none)
+          ∙ sym (is_held-row state.head state.blocks state.cells key (found s) (row s) live (home s).here)
+          ∙ s.round.members key
+          ∙ sym (λ i. members_after (is_in (facts_same i).keys) (front_same i) key)
+
+    -- what the freeze tells the only pass
+    freezes_alone : FreezesAlone s.place s.old (row s) (new_view s)
+    freezes_alone = record {
+      same = ledger_stays;
+      agrees = λ bucket source is_word none key class untouched. row_agrees bucket source is_word key class untouched none;
+    }
+
   -- the pass's view owes nothing
   sees_new : After s.old.number (new_view s)
   sees_new =
@@ -156,7 +217,7 @@ module _ {facts : RoundFacts} {words : List ℕ} {state : RoundState} {history :
       home = row_home s.round s.old s.there s.place s.may.at s.may.bucket s.may.generation s.may.is_word (row s) (home s).exponent
           ((home s).bucket ∙ mod-eq_of_lt s.may.is_word.within);
       view = refl;
-      alone = λ alone. ledger_stays
+      alone = λ alone. freezes_alone
           (ap (λ (facts : RoundFacts). facts.seats) (sym (s.round.fits.numbered s.old.number s.old s.there).same_round) ∙ alone);
     };
   }

@@ -12,17 +12,6 @@ drawing_is : (ledger : Ledger) (len : ℕ) (spent : Option ℕ) (fits : Bool) �
     → nat_le (ledger.next + len) ledger.cap ≡ fits → drawing len ledger ≡ drawing_where spent fits len ledger
 drawing_is ledger len spent fits is_spent test = λ i. drawing_where (is_spent i) (test i) len ledger
 
--- a draw leaves the untouched buckets,
-untouched_where : (spent : Option ℕ) (fits : Bool) (len : ℕ) (ledger : Ledger)
-    → (drawing_where spent fits len ledger).ledger.untouched ≡ ledger.untouched
-untouched_where (Some place) fits len ledger = refl
-untouched_where None true len ledger = refl
-untouched_where None false len ledger = refl
-
--- however it ends
-pub drawing-untouched : (len : ℕ) (ledger : Ledger) → (drawing len ledger).ledger.untouched ≡ ledger.untouched
-drawing-untouched len ledger = untouched_where ledger.spent (nat_le (ledger.next + len) ledger.cap) len ledger
-
 -- an outcome as a call's end
 ends_as : (outcome known : Outcome) (full : Bool) (new : PassView) → outcome ≡ known → full ≡ known.full → ledger_of new ≡ known.ledger
     → EndsAs outcome full new

@@ -71,11 +71,11 @@ module _ {facts : RoundFacts} {words : List ℕ} {state : RoundState} {history :
   lookup = generation_at-known old place may.at may.bucket may.generation (sound_view round old.number old there) may.is_word
 
   -- the generation is published,
-  here : IsGeneration state.blocks may.at may.generation
+  pub here : IsGeneration state.blocks may.at may.generation
   here = published round old there place may.at may.bucket may.generation may.is_word
 
   -- and the cell has the word
-  shown : found ≡ state.cells may.at may.bucket
+  pub shown : found ≡ state.cells may.at may.bucket
   shown = word_is round old there place may.at may.bucket may.generation may.is_word
 
   -- the bucket isn't one of the head

@@ -3,7 +3,7 @@ use Rattle.step_core.specs.Ledger.{Ledger, drawing}
 use Rattle.cells.specs.Lone.{ledger_of, EndsAs}
 use Rattle.cells.specs.Tokens.{PassValue, RoundValue, fresh_pass}
 use Rattle.step_core.specs.declared.views.PassView.{PassView}
-use Rattle.cells.proofs.laws.Drawing.{drawing-untouched}
+use Rattle.step_core.proofs.ledgers.Kept.{drawing-untouched}
 use Rattle.cells.proofs.tests.lone.the_ledger_tells_where_blocks_lie_and_when_there_is_none.Goals as goal
 
 -- an opening has no untouched bucket,

@@ -10,3 +10,4 @@ pub mod Looking
 pub mod Ensuring
 pub mod Standing
 pub mod Turns
+pub mod Alone

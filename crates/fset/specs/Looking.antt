@@ -12,6 +12,7 @@ use Rattle.step_core.specs.declared.views.Known.{Known}
 use Rattle.step_core.specs.declared.views.NilBucket.{NilBucket}
 use Rattle.step_core.specs.declared.views.PassView.{PassView}
 use Rattle.cells.specs.Known.{row_at, KnowsGeneration}
+use Rattle.cells.specs.Lone.{SameLedger}
 use Rattle.cells.specs.Steps.{LoadsSealed}
 use Rattle.fset.specs.Content.{Agrees}
 use Rattle.fset.specs.Frames.{Grows, KeepsOwn, latest_row}
@@ -104,3 +105,4 @@ pub record LooksUp (key : ℕ) (old : PassView) (found : Seen) (new : PassView) 
     sealed_loads = old.made.sealed_loads + sealed;
     bucket_loads = old.made.bucket_loads + buckets;
   }
+  pub alone : old.facts.seats ≡ 1 → SameLedger old new

@@ -1,12 +1,14 @@
 -- Building a row: its words stand in a block in hand, and nothing of it is published.
-use Rattle.std.specs.Prelude.{◌≡◌, ◌≢◌, ℕ, ◌+◌, ◌<◌, ◌≤◌, ◌⊎◌, List, [], ◌∷◌, length, Some, None}
+use Rattle.std.specs.Prelude.{◌≡◌, ◌≢◌, ℕ, ◌+◌, ◌<◌, ◌≤◌, ◌⊎◌, true, false, List, [], ◌∷◌, length, Some, None}
 use Rattle.set_model.specs.declared.call.Call.{Call}
 use Rattle.arena.specs.Hands.{words_at}
 use Rattle.step_core.specs.Format.{row_words}
+use Rattle.step_core.specs.Ledger.{drawing}
 use Rattle.step_core.specs.Rising.{keys_after_call}
 use Rattle.step_core.specs.declared.views.PassView.{PassView}
 use Rattle.step_core.specs.declared.views.StepCounts.{StepCounts}
 use Rattle.cells.specs.Frames.{OnlyDraws}
+use Rattle.cells.specs.Lone.{EndsAlone}
 use Rattle.cells.specs.Steps.{Draws, Writes}
 use Rattle.cells.specs.Tokens.{BlockValue}
 use Rattle.fset.specs.Content.{seen_keys}
@@ -34,6 +36,7 @@ pub record Builds (keys : List ℕ) (block : BlockValue) (old new : PassView) : 
   pub unspent : old.spent ≡ None
   pub spent : new.spent ≡ old.spent
   pub steps : OnlyBuilds (row_cost (length keys)) old.made new.made
+  pub alone : EndsAlone (drawing (row_cost (length keys))) false old new
 
 -- a draw passed the end, which it wouldn't have without these words, and left the pass spent, with the
 -- place that it found
@@ -69,6 +72,7 @@ pub record RefusesRow (keys : List ℕ) (old new : PassView) : Type 0 where
   pub bound : words ≤ row_cost (length keys)
   pub full : IsOutOfWords words old new
   pub steps : OnlyBuilds 0 old.made new.made
+  pub alone : EndsAlone (drawing (row_cost (length keys))) true old new
 
 -- the content of a row with the call made on it, as a rising list
 abbrev pub changed_keys : Call → ℕ → PassView → Seen → List ℕ

@@ -6,6 +6,7 @@ use Rattle.step_core.specs.declared.views.FixedCell.{FixedCell}
 use Rattle.step_core.specs.declared.views.Known.{Known}
 use Rattle.step_core.specs.declared.views.PassView.{PassView}
 use Rattle.cells.specs.Known.{known_block, KnowsRow, row_at, keys_at}
+use Rattle.cells.specs.Lone.{SameLedger}
 use Rattle.cells.specs.Marks.{IsMarkedFor}
 use Rattle.cells.specs.Steps.{AgreesAtFront}
 use Rattle.fset.specs.declared.seen.Seen.{Seen}
@@ -51,3 +52,4 @@ pub record ReadsRow (at : ℕ) (old : PassView) (seen : Seen) (new : PassView) :
   -- marked from there.
   pub marked : seen.op ≡ 0 → (key : ℕ) → IsMarkedFor old at key
       → AgreesAtFront new (row_at new.known at) key × IsMarkedFor new at key
+  pub alone : old.facts.seats ≡ 1 → SameLedger old new

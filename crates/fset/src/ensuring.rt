@@ -1,6 +1,7 @@
 // Filling a bucket from the generation before.
-ghost use Rattle.std.specs.Prelude.{IfErr, IfOk, OnErr, OnOk};
+ghost use Rattle.std.specs.Prelude.{◌≡◌, IfErr, IfOk, OnErr, OnOk, is_err};
 ghost use Rattle.cells.specs.Tokens.{IsPassOf, IsSamePass};
+ghost use Rattle.fset.specs.Alone.{BuildsAlone, ClosesAlone, FillsAlone};
 ghost use Rattle.fset.specs.Ensuring.{
   BuildsFilling,
   ClosesBucket,
@@ -21,7 +22,8 @@ use step_core::{FIRST_BUCKET, bucket_count, predecessor_place, row_address};
 /// whether this pass filled it or another; one that is filled already costs the draw all the same.
 ///
 /// It is Full only where the pass was spent, or is spent by the draw of the row's words. A generation
-/// without one before has no nil bucket, and nothing is done but to read that.
+/// without one before has no nil bucket, and nothing is done but to read that. For the only pass of a
+/// round, its ledger says how the fill of a nil bucket of the head ends.
 ///
 /// After Liu, Zhang and Spear, Dynamic-sized nonblocking hash tables (PODC 2014).
 pub fn ensure(round: &Round, pass: &mut Pass, head: u64, bucket: u64) -> Result<(), Full>
@@ -30,6 +32,7 @@ pub fn ensure(round: &Round, pass: &mut Pass, head: u64, bucket: u64) -> Result<
     ensures pass { IsSamePass pass.old pass.new }
     ensures answer { OnOk result (EnsuresFilled head bucket pass.old.view pass.new.view) }
     ensures full { OnErr result (RefusesFilling head bucket pass.old.view pass.new.view) }
+    ensures ledger { FillsAlone head bucket (is_err result) pass.old.view pass.new.view }
 {
     round.sound(pass);
     let exponent = round.load_sealed(pass, head);
@@ -80,6 +83,8 @@ fn build_filling(round: &Round, pass: &mut Pass, filling: &Filling) -> Result<Bl
         BuildsFilling filling.now block pass.old.view pass.new.view) }
     ensures full { OnErr result (RefusesFilling filling.now.head filling.now.bucket
         pass.old.view pass.new.view) }
+    ensures ledger { BuildsAlone filling.now.head filling.now.bucket (is_err result)
+        pass.old.view pass.new.view }
 {
     round.sound(pass);
     if filling.before < filling.exponent {
@@ -107,6 +112,8 @@ fn close_bucket(round: &Round, pass: &mut Pass, at: u64, bucket: u64) -> Seen
     requires knows { IsSource pass.old.view at bucket }
     ensures pass { IsSamePass pass.old pass.new }
     ensures answer { ClosesBucket at bucket pass.old.view result pass.new.view }
+    ensures ledger { pass.old.view.facts.seats ≡ 1
+        → ClosesAlone at bucket pass.old.view result pass.new.view }
 {
     round.sound(pass);
     let word = round.freeze(pass, at + FIRST_BUCKET + bucket);

@@ -1,6 +1,8 @@
 // Finding the bucket of a key and its row.
-ghost use Rattle.std.specs.Prelude.{◌≡◌, IfOk, OnErr};
+ghost use Rattle.std.specs.Prelude.{◌≡◌, IfOk, OnErr, true};
+ghost use Rattle.cells.specs.Lone.{EndsAlone};
 ghost use Rattle.cells.specs.Tokens.{IsPassOf, IsSamePass};
+ghost use Rattle.fset.specs.Alone.{EndsSeekAlone, LoadsAlone};
 ghost use Rattle.fset.specs.Seeking.{
   EndsSeek,
   FindsNil,
@@ -8,6 +10,7 @@ ghost use Rattle.fset.specs.Seeking.{
   LoadsBucketOf,
   LoadsKeyBucket,
 };
+ghost use Rattle.step_core.specs.Ledger.{touch_for};
 
 use crate::{Seek, Seen, ensure, read_row};
 use cells::{Full, Pass, Round};
@@ -26,11 +29,14 @@ pub struct Sought {
 
 /// Opens a turn, finds the bucket of the key in the head and reads its row, by one load of the head and
 /// one of the bucket. Where it finds the bucket nil, it fills it and loads it again. Of the key the
-/// row says what the set after the pass's new front says, which begins with its old one.
+/// row says what the set after the pass's new front says, which begins with its old one. For the only
+/// pass of a round, its ledger says how this ends, and the bucket isn't frozen.
 pub fn seek(round: &Round, pass: &mut Pass, key: u64) -> Seek
     requires pass { IsPassOf round.now pass.old }
     ensures pass { IsSamePass pass.old pass.new }
     ensures answer { EndsSeek key result pass.old.view pass.new.view }
+    ensures ledger { pass.old.view.facts.seats ≡ 1
+        → EndsSeekAlone key result pass.old.view pass.new.view }
 {
     let Ok(bucket) = load_key_bucket(round, pass, key) else {
         return Seek::Full;
@@ -66,6 +72,10 @@ fn load_key_bucket(round: &Round, pass: &mut Pass, key: u64) -> Result<LoadedBuc
     ensures pass { IsSamePass pass.old pass.new }
     ensures answer { IfOk result (λ bucket. LoadsKeyBucket key pass.old.view bucket pass.new.view) }
     ensures full { OnErr result (FindsNil key pass.old.view pass.new.view) }
+    ensures ledger { IfOk result (λ bucket. pass.old.view.facts.seats ≡ 1
+        → LoadsAlone key pass.old.view bucket pass.new.view) }
+    ensures ledger_full { OnErr result
+        (EndsAlone (touch_for key) true pass.old.view pass.new.view) }
 {
     let head = round.load_head(pass);
     round.sound(pass);

@@ -1,6 +1,7 @@
 // One try of an insert or a remove.
 ghost use Rattle.std.specs.Prelude.{◌≡◌, ◌≢◌, ◌-◌, None};
 ghost use Rattle.cells.specs.Tokens.{HasNewCall, IsPassOf, IsSamePass};
+ghost use Rattle.fset.specs.Alone.{EndsTurnAlone};
 ghost use Rattle.fset.specs.Turns.{AreOneTurn, EndsTurn};
 ghost use Rattle.set_model.specs.declared.call.Call.TheVariants.{Contains};
 
@@ -20,7 +21,7 @@ use step_core::FIRST_KEY;
 /// where that exchange was lost, or the bucket was frozen when it was loaded, so that none was made;
 /// and Full only where the pass was spent, or a draw for its row or for one to fill the bucket with
 /// passed the end. The call then has no entry. Where its row was exchanged, or it is Lost, no turn is
-/// open.
+/// open. For the only pass of a round, its ledger says how the turn ends, and which draws it makes.
 ///
 /// After Liu, Zhang and Spear, Dynamic-sized nonblocking hash tables (PODC 2014).
 pub fn turn(round: &Round, pass: &mut Pass, call: Call, key: u64) -> Turn
@@ -29,6 +30,8 @@ pub fn turn(round: &Round, pass: &mut Pass, call: Call, key: u64) -> Turn
     requires idle { pass.old.view.flight ≡ None }
     ensures pass { IsSamePass pass.old pass.new }
     ensures answer { EndsTurn (pass.old.calls - 1) call key result pass.old.view pass.new.view }
+    ensures ledger { pass.old.view.facts.seats ≡ 1
+        → EndsTurnAlone call key result pass.old.view pass.new.view }
     ensures steps { AreOneTurn pass.old.view.made pass.new.view.made }
 {
     let sought = seek(round, pass, key);

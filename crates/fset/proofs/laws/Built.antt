@@ -1,5 +1,5 @@
 -- A block that was drawn and written whole has the row, and a refused draw leaves no row.
-use Rattle.std.proofs.Common.{◌≡◌, ◌≢◌, ℕ, suc, ◌+◌, ◌-◌, ◌^◌, ◌<◌, ◌≤◌, false, List, [], ◌∷◌, ◌++◌, length, take, drop, slice_range, Option, Some, None, inl, inr, ⊎_elim, add-zero, refl, sym, ap, ◌∙◌, subst, append_assoc, take_all, length-append, length-drop, arith}
+use Rattle.std.proofs.Common.{◌≡◌, ◌≢◌, ℕ, suc, ◌+◌, ◌-◌, ◌^◌, ◌<◌, ◌≤◌, true, false, List, [], ◌∷◌, ◌++◌, length, take, drop, slice_range, Option, Some, None, inl, inr, ⊎_elim, add-zero, refl, sym, ap, ◌∙◌, subst, append_assoc, take_all, length-append, length-drop, arith}
 use Rattle.std.proofs.lemmas.List.{length-take-le}
 use Rattle.std.proofs.lemmas.List.Edits.{length-remove}
 use Rattle.std.specs.List.{insert, remove}
@@ -8,6 +8,7 @@ use Rattle.set_model.specs.Keys.{is_in}
 use Rattle.set_model.specs.declared.call.Call.{Call}
 use Rattle.set_model.specs.declared.call.Call.TheVariants.{Remove}
 use Rattle.step_core.specs.Format.{row_words}
+use Rattle.step_core.specs.Ledger.{drawing}
 use Rattle.step_core.specs.Rising.{ChangesKeys, keys_after_call, place_in, with_key}
 use Rattle.step_core.specs.declared.format.TheConstants.{FIRST_KEY}
 use Rattle.step_core.specs.declared.views.PassView.{PassView}
@@ -25,6 +26,7 @@ use Rattle.fset.specs.Frames.{row_cost}
 use Rattle.fset.specs.Rows.{Builds, OnlyBuilds, Overdrew, RefusesRow, StartsRow, WasSpent}
 use Rattle.fset.specs.Seen.{IsSeen}
 use Rattle.fset.specs.declared.seen.Seen.{Seen}
+use Rattle.fset.proofs.laws.AloneRows.{ends_after_reads, refused_ends, row_ends}
 use Rattle.fset.proofs.laws.Copying.{writes_keys, writes_reads}
 use Rattle.fset.proofs.laws.Reading.{after_reads-both, after_reads-none}
 
@@ -87,6 +89,7 @@ row_built keys block loads old started new starts rest =
             writes = old.made.writes + (let long : length (row_words keys) ≡ row_cost (length keys) = omega arith in long) i;
           }))
           (omega arith);
+      alone = row_ends old at (row_cost (length keys)) between loads (row_words keys) new starts.draws whole;
     }
 
 -- Drawing a block and writing into it leaves the keys that are known.
@@ -109,6 +112,7 @@ refused None keys old new was full =
       bound = omega arith;
       full = inr (record { at = over.0; spent = keeps.3; behind = over.1.found.behind; past = over.1.past });
       steps = only_draws (old.made.draws + 1) old.made new.made (ap (λ (view : PassView). view.made) over.1.view) (omega arith);
+      alone = refused_ends old (row_cost (length keys)) new full;
     }
 refused (Some place) keys old new was full =
     let some : old.spent ≢ None = λ (none : old.spent ≡ None). (let clash : Some place ≡ None = sym was ∙ none in cc) in
@@ -121,6 +125,7 @@ refused (Some place) keys old new was full =
       bound = omega arith;
       full = inl (record { before = some; still = ap (λ (view : PassView). view.spent) same; none = refl });
       steps = only_draws old.made.draws old.made new.made (ap (λ (view : PassView). view.made) same) (omega arith);
+      alone = refused_ends old (row_cost (length keys)) new full;
     }
 
 -- A refused draw of a row's words leaves the pass spent, and no row.
@@ -228,6 +233,7 @@ built_after_reads keys block loads old new builds = record {
   unspent = builds.unspent;
   spent = builds.spent;
   steps = record { only = builds.steps.only; draws = builds.steps.draws };
+  alone = ends_after_reads (drawing (row_cost (length keys))) false loads old new builds.alone;
 }
 
 pub refused_after_reads : (keys : List ℕ) (loads : ℕ) (old new : PassView) → RefusesRow keys (after_reads loads old) new
@@ -243,4 +249,5 @@ refused_after_reads keys loads old new refuses = record {
       inr (record { at = over.at; spent = over.spent; behind = over.behind; past = over.past }))
       refuses.full;
   steps = record { only = refuses.steps.only; draws = refuses.steps.draws };
+  alone = ends_after_reads (drawing (row_cost (length keys))) true loads old new refuses.alone;
 }

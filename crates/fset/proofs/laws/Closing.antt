@@ -107,7 +107,8 @@ module _ (at bucket : ℕ) (v0 v1 : PassView) (word : ℕ) (freezes : FreezesBuc
   abbrev row : RowBlock
   row = freezes.row
 
-  named : row_at v1.known (row_address word) ≡ row
+  -- The lookup finds the row of a frozen bucket.
+  pub named : row_at v1.known (row_address word) ≡ row
   named = ap (λ (view : PassView). row_at view.known (row_address word)) freezes.view ∙ row_at-first (row_address word) row v0.known
 
   -- The row of a frozen bucket may be read.

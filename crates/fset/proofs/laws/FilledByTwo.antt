@@ -60,11 +60,11 @@ module _ (filling : Filling) (v0 : PassView) (f : IsFilling v0 filling) (sound :
     within : (filling.bucket < 2 ^ filling.before) × (other < 2 ^ filling.before)
     within = sources_within filling.exponent filling.before filling.bucket two (filling_within filling v0 f sound)
 
-    -- the keys that go into the row are those of both
     abbrev joint : List ℕ
     joint = joined_keys v2 low high
 
-    joint_is : joint ≡ joined first.row.keys second.row.keys
+    -- The keys that go into the row are those of both,
+    pub joint_is : joint ≡ joined first.row.keys second.row.keys
     joint_is = λ i. joined (closed_keys filling.predecessor filling.bucket v0 low v1 first other_read v2 second.grows.known sound_two i)
         (closed_keys filling.predecessor other v1 high v2 second [] v2 refl sound_two i)
 
@@ -74,16 +74,17 @@ module _ (filling : Filling) (v0 : PassView) (f : IsFilling v0 filling) (sound :
     high_holds : HoldsClass second.row
     high_holds = closed_holds filling.predecessor other v1 high v2 second [] v2 refl sound_two
 
-    joint_rises : IsStrictlyIncreasing joint
+    -- rising,
+    pub joint_rises : IsStrictlyIncreasing joint
     joint_rises = subst IsStrictlyIncreasing (sym joint_is) (joined-rises first.row.keys second.row.keys low_holds.rising high_holds.rising)
 
-    -- which are of the classes of the two sources
-    low_class : All (InClass filling.before filling.bucket) first.row.keys
+    -- and of the classes of the two sources.
+    pub low_class : All (InClass filling.before filling.bucket) first.row.keys
     low_class =
         let home = first.home f.source (source_word filling v0 f sound [] v0 refl filling.bucket within.0) in
         subst (λ (z : ℕ × ℕ). All (InClass z.0 z.1) first.row.keys) (λ i. ((home.0 ∙ sym f.of_source) i, home.1 i)) low_holds.class
 
-    high_class : All (InClass filling.before other) second.row.keys
+    pub high_class : All (InClass filling.before other) second.row.keys
     high_class =
         let home = second.home f.source (source_word filling v0 f sound one_read v1 first.grows.known other within.1) in
         subst (λ (z : ℕ × ℕ). All (InClass z.0 z.1) second.row.keys) (λ i. ((home.0 ∙ sym f.of_source) i, home.1 i)) high_holds.class

@@ -18,6 +18,7 @@ use Rattle.fset.specs.Frames.{Grows}
 use Rattle.fset.specs.Looking.{LoadsEachOnce, LooksUp}
 use Rattle.fset.specs.Seen.{KnowsRowAt, ReadsRow}
 use Rattle.fset.specs.declared.seen.Seen.{Seen}
+use Rattle.fset.proofs.laws.AloneRows.{same_then, still_alone}
 use Rattle.fset.proofs.laws.Frames.{grows_then, latest_row-append, own_then, then_loses}
 use Rattle.fset.proofs.laws.Looking.{head_grows}
 use Rattle.fset.proofs.laws.Meeting.{Met}
@@ -96,4 +97,8 @@ module _ (key head at : ℕ) (v0 v1 v2 v3 : PassView) (seen : Seen) (heads : Loa
           sealed_loads = (let sum : v0.made.sealed_loads + met.sealed + 2 ≡ v0.made.sealed_loads + (met.sealed + 2) = omega arith in sum) i;
           bucket_loads = v0.made.bucket_loads + met.buckets;
         });
+    alone = λ alone.
+        let found = still_alone v0 v1 (ap (λ (view : PassView). view.facts) heads.view) alone in
+        same_then v0 v1 v3 (heads.alone alone).same
+        (same_then v1 v2 v3 (met.alone found) (reads.alone (still_alone v1 v2 met.grows.facts found)));
   }

@@ -10,6 +10,7 @@ use Rattle.step_core.specs.declared.views.PassView.{PassView}
 use Rattle.step_core.specs.declared.views.StepCounts.{StepCounts}
 use Rattle.cells.specs.Frames.{after_reads}
 use Rattle.cells.specs.Known.{known_block, row_at, KnowsGeneration, KnowsRow}
+use Rattle.cells.specs.Lone.{SameLedger}
 use Rattle.cells.specs.Marks.{IsHeadNow, IsMarkedFor, IsNilNow}
 use Rattle.cells.specs.Sound.{IsSound}
 use Rattle.cells.specs.Steps.{LoadsBucket, LoadsSealed}
@@ -20,6 +21,7 @@ use Rattle.fset.specs.Frames.{Grows, KeepsOwn, latest_row}
 use Rattle.fset.specs.Looking.{MeetsBefore, MeetsInHead, MeetsRow}
 use Rattle.fset.specs.Seeking.{KnowsGenerationAt, LoadsBucketOf}
 use Rattle.fset.specs.declared.seeking.LoadedBucket.{LoadedBucket}
+use Rattle.fset.proofs.laws.AloneRows.{reads_same, same_then, still_alone}
 use Rattle.fset.proofs.laws.Looking.{bucket_grown, bucket_own, nil_noted}
 use Rattle.fset.proofs.laws.Naming.{front_still, named_is, names_grow, names_own, names_predecessor}
 use Rattle.fset.proofs.laws.Frames.{grows_then, own_then, reads_grow, reads_own, then_loses}
@@ -47,6 +49,7 @@ pub record Met (key : ℕ) (old : PassView) (at : ℕ) (new : PassView) : Type 0
     sealed_loads = old.made.sealed_loads + sealed;
     bucket_loads = old.made.bucket_loads + buckets;
   }
+  pub alone : old.facts.seats ≡ 1 → SameLedger old new
 
 -- how many turns the load of a bucket lost
 lost_few : (place : ℕ) (old : PassView) (word : ℕ) (new : PassView) → LoadsBucket place old word new
@@ -105,6 +108,7 @@ module _ (head key at : ℕ) (v1 v2 : PassView) (now : IsHeadNow v1 head) (m : M
         buckets = 1;
         few_buckets = inl refl;
         made = ap (λ (view : PassView). view.made) loads.view;
+        alone = λ alone. same_then v1 between v2 (reads_same 1 v1) (loads.alone alone).same;
       }
 
 -- Behind a nil bucket the generation before may be loaded from, once its address was.
@@ -254,6 +258,11 @@ module _ (head key at : ℕ) (v1 v4 : PassView) (sound : IsSound v1) (m : MeetsB
               sealed_loads = (let sum : v1.made.sealed_loads + 1 + 1 + 1 ≡ v1.made.sealed_loads + 3 = omega arith in sum) i;
               bucket_loads = (let sum : v1.made.bucket_loads + 1 + 1 ≡ v1.made.bucket_loads + 2 = omega arith in sum) i;
             });
+        alone = λ alone.
+            let found = still_alone v1 v2 (ap (λ (view : PassView). view.facts) finds.view) alone in
+            let named = still_alone v2 v3 (ap (λ (view : PassView). view.facts) m.names.view) found in
+            same_then v1 v2 v4 (same_then v1 first v2 (reads_same 1 v1) (finds.alone alone).same)
+            (same_then v2 v3 v4 (m.names.alone found) (same_then v3 second v4 (reads_same 1 v3) (before_loads.alone named).same));
       }
 
 -- However it was met, so it is.

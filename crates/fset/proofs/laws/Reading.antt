@@ -22,6 +22,7 @@ use Rattle.fset.specs.Content.{seen_content, seen_keys}
 use Rattle.fset.specs.Frames.{Grows}
 use Rattle.fset.specs.Seen.{KnowsRowAt, HasResult, IsSeen, ReadsRow, fixed_result}
 use Rattle.fset.specs.declared.seen.Seen.{Seen}
+use Rattle.fset.proofs.laws.AloneRows.{reads_same, same_then}
 use Rattle.fset.proofs.laws.Frames.{behind_self}
 
 -- So many loads of sealed words more.
@@ -141,6 +142,7 @@ module _ (at : ℕ) (old : PassView) (known : KnowsRowAt old at) (word : ℕ) (n
             let told = loads.agrees at row (record { known = known; sealed = omega arith; here = refl }) (sym is_op ∙ zero) key
             (record { mark = mark.mark; others = mark.others; latest = mark.latest; row = mark.row; now = mark.now; of_key = mark.of_key }) in
             (subst (λ (row : RowBlock). AgreesAtFront new row key) (sym stays.1) told.0, told.1);
+        alone = λ alone. same_then old between new (reads_same 1 old) (loads.alone alone);
       }
 
 -- Loading the first two words of a known row reads it.

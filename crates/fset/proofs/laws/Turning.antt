@@ -351,13 +351,14 @@ module _ (key : ℕ) (call : Call) (v0 v1 v2 : PassView) (sought : Sought) (seek
       in_hand : hand_keys v3 block.at ≡ changed
       in_hand = ap (drop FIRST_KEY) builds.built
 
-      is_change : swap_change v3 sought.word block.at ≡ Some (record { call = call; key = key })
+      -- Its exchange makes the call's change,
+      pub is_change : swap_change v3 sought.word block.at ≡ Some (record { call = call; key = key })
       is_change =
           (λ i. change_of ((content_keys-plain v3 (named_row v3 sought.word) (ap (λ (row : RowBlock). row.op) named ∙ plain)
           ∙ ap (λ (row : RowBlock). row.keys) named) i) (in_hand i))
           ∙ change_of-after_call call key keys rising changes
 
-      -- Else its exchange may be made.
+      -- and may be made.
       pub may_exchange : v0.flight ≡ None → MaySwapRow v3 sought.place sought.word block.at
       may_exchange idle = record {
         turn = built.loaded.turn;

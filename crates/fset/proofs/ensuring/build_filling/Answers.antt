@@ -1,9 +1,14 @@
-use Rattle.std.proofs.Common.{ℕ, ◌+◌, ◌%◌, ◌^◌, [], ◌∷◌, refl, sym, subst}
+use Rattle.std.proofs.Common.{◌≡◌, ℕ, ◌+◌, ◌%◌, ◌^◌, [], ◌∷◌, is_err, refl, sym, subst}
 use Rattle.std.proofs.lemmas.Result.{IfOk-weaker, IfErr-weaker}
 use Rattle.step_core.specs.declared.published.Published.TheVariants.{Row}
 use Rattle.cells.specs.Known.{known_block}
 use Rattle.cells.specs.Tokens.{BlockValue}
+use Rattle.fset.specs.Alone.{ClosesAlone}
 use Rattle.fset.specs.Ensuring.{BuildsFilling, ClosesBucket, IsSource, RefusesFilling}
+use Rattle.fset.specs.Joining.{joined_keys}
+use Rattle.fset.specs.Splitting.{split_keys}
+use Rattle.fset.proofs.laws.AloneRows.{builds_end, still_alone}
+use Rattle.fset.proofs.laws.AloneSources.{joint_ends, split_ends}
 use Rattle.fset.proofs.laws.FilledByOne.{split_fills, split_refused}
 use Rattle.fset.proofs.laws.FilledByTwo.{joint_fills, joint_refused, low_still}
 use Rattle.fset.proofs.laws.Filling.{exponents_small, fewer_exponent, filling_within, is_source, more_bits}
@@ -46,6 +51,24 @@ returns-then-filling-clause-full c =
     (λ _ refuses. split_refused filling v0 c.requires.knows c.sound.ensures.view
     (more_bits filling v0 c.requires.knows c.sound.ensures.view c.if-filling.true) row v1 v2 closes c.sound-then-filling.ensures.view
     c.sound-then-filling-2.ensures.view refuses) c.build_split-built.ensures.full
+
+-- for the only pass, it has the bucket's keys
+pub returns-then-filling-clause-ledger : goal.returns-then-filling-clause-ledger
+returns-then-filling-clause-ledger c =
+    let filling = c.args.filling.now in
+    let v0 = c.args.pass.now.view in
+    let v1 = c.close_bucket-row.new.pass.view in
+    let v2 = c.build_split-built.new.pass.view in
+    let row = c.close_bucket-row.result in
+    let closes = subst (λ (size : ℕ). ClosesBucket filling.predecessor (filling.bucket % size) v0 row v1) c.bucket_count.ensures.count
+    c.close_bucket-row.ensures.answer in
+    let closed = subst (λ (size : ℕ). v0.facts.seats ≡ 1 → ClosesAlone filling.predecessor (filling.bucket % size) v0 row v1)
+    c.bucket_count.ensures.count c.close_bucket-row.ensures.ledger in
+    λ nil alone. split_ends filling v0 c.requires.knows c.sound.ensures.view nil alone
+    (more_bits filling v0 c.requires.knows c.sound.ensures.view c.if-filling.true) row v1 closes (closed alone) c.sound-then-filling.ensures.view
+    (is_err c.build_split-built.result) v2
+    (builds_end (split_keys filling.exponent filling.bucket v1 row) v1 v2 c.build_split-built.result c.build_split-built.ensures.answer
+    c.build_split-built.ensures.full)
 
 -- after a shrink the bucket and another are the sources
 pub close_bucket-low-requires-clause-knows : goal.close_bucket-low-requires-clause-knows
@@ -119,3 +142,24 @@ returns-clause-full c =
     (λ _ refuses. joint_refused filling v0 c.requires.knows sound (fewer_exponent filling v0 c.requires.knows sound c.if-filling.false)
     c.close_bucket-low.result high v1 v2 c.close_bucket-low.ensures.answer second c.sound-3.ensures.view v3 refuses)
     c.build_joined-built.ensures.full
+
+-- for the only pass, it has the bucket's keys
+pub returns-clause-ledger : goal.returns-clause-ledger
+returns-clause-ledger c =
+    let filling = c.args.filling.now in
+    let v0 = c.args.pass.now.view in
+    let v1 = c.close_bucket-low.new.pass.view in
+    let v2 = c.close_bucket-high.new.pass.view in
+    let v3 = c.build_joined-built.new.pass.view in
+    let sound = c.sound.ensures.view in
+    let low = c.close_bucket-low.result in
+    let high = c.close_bucket-high.result in
+    let second = subst (λ (size : ℕ). ClosesBucket filling.predecessor (filling.bucket + size) v1 high v2) c.bucket_count-2.ensures.count
+    c.close_bucket-high.ensures.answer in
+    let closed = subst (λ (size : ℕ). v1.facts.seats ≡ 1 → ClosesAlone filling.predecessor (filling.bucket + size) v1 high v2)
+    c.bucket_count-2.ensures.count c.close_bucket-high.ensures.ledger in
+    λ nil alone. joint_ends filling v0 c.requires.knows sound nil alone
+    (fewer_exponent filling v0 c.requires.knows sound c.if-filling.false) low high v1 v2 c.close_bucket-low.ensures.answer second
+    c.sound-2.ensures.view c.sound-3.ensures.view (c.close_bucket-low.ensures.ledger alone)
+    (closed (still_alone v0 v1 c.close_bucket-low.ensures.answer.grows.facts alone)) (is_err c.build_joined-built.result) v3
+    (builds_end (joined_keys v2 low high) v2 v3 c.build_joined-built.result c.build_joined-built.ensures.answer c.build_joined-built.ensures.full)

@@ -1,5 +1,6 @@
 use Rattle.std.proofs.Common.{ℕ, subst, arith}
 use Rattle.fset.specs.Seen.{ReadsRow}
+use Rattle.fset.proofs.laws.AloneClosing.{closed_alone}
 use Rattle.fset.proofs.laws.Closing.{bucket_closed, source_within}
 use Rattle.fset.proofs.ensuring.close_bucket.Goals as goal
 
@@ -23,3 +24,13 @@ returns-clause-answer c =
     c.read_row-row.result
     (subst (λ (at : ℕ). ReadsRow at v1 c.read_row-row.result c.read_row-row.new.pass.view) c.row_address.ensures c.read_row-row.ensures.answer)
     c.sound.ensures.view c.sound-3.ensures.view
+
+-- for the only pass, it has what the set has of untouched buckets
+pub returns-clause-ledger : goal.returns-clause-ledger
+returns-clause-ledger c =
+    let v0 = c.args.pass.now.view in
+    let v1 = c.freeze-word.new.pass.view in
+    λ alone. closed_alone c.args.at c.args.bucket v0 v1 c.freeze-word.result c.freeze-word.ensures.answer c.read_row-row.new.pass.view
+    c.read_row-row.result
+    (subst (λ (at : ℕ). ReadsRow at v1 c.read_row-row.result c.read_row-row.new.pass.view) c.row_address.ensures c.read_row-row.ensures.answer)
+    c.sound.ensures.view c.sound-3.ensures.view alone (c.freeze-word.ensures.answer.alone alone)

@@ -1,8 +1,12 @@
-use Rattle.std.proofs.Common.{ℕ, ◌+◌, sym, subst, arith}
+use Rattle.std.proofs.Common.{ℕ, ◌+◌, true, false, sym, subst, arith}
 use Rattle.step_core.specs.declared.format.TheConstants.{FIRST_BUCKET}
 use Rattle.cells.specs.Known.{KnowsSealed}
 use Rattle.cells.specs.Steps.{LoadsSealed}
 use Rattle.cells.proofs.laws.Within.{bucket_within}
+use Rattle.step_core.specs.Ledger.{touch}
+use Rattle.cells.proofs.laws.Outcomes.{ends_from}
+use Rattle.fset.specs.declared.ensuring.Filling.{Filling}
+use Rattle.fset.proofs.laws.AloneEnsuring.{filling_full, filling_lost, filling_won, named_alone, named_nil, named_same, never_first}
 use Rattle.fset.proofs.laws.Ensuring.{either_way, ensured_first, exponents_fit, filling_ensured, filling_refused, is_filling, knows_link, knows_source, lost_filling, won_filling}
 use Rattle.fset.proofs.ensuring.ensure.Goals as goal
 
@@ -114,3 +118,69 @@ returns-clause-answer c =
     c.load_sealed-before.result c.load_sealed-before.ensures.answer c.in-Ok.block v4 v5 c.in-Ok.ensures.answer c.sound-3.ensures.view
     (either_way c.init_bucket.result _ c.init_bucket.ensures.won c.init_bucket.ensures.lost (won_filling place c.in-Ok.block.at v4 v5)
     (λ _ lost. lost_filling place v4 v5 lost.2))
+
+-- For the only pass: the generation of a nil bucket has one before,
+pub returns-then-predecessor-eq0-clause-ledger : goal.returns-then-predecessor-eq0-clause-ledger
+returns-then-predecessor-eq0-clause-ledger c =
+    let v1 = c.load_sealed-exponent.new.pass.view in
+    let v2 = c.load_sealed-predecessor.new.pass.view in
+    let predecessor = c.load_sealed-predecessor.result in
+    let second = subst (λ (place : ℕ). LoadsSealed place v1 predecessor v2) c.predecessor_place.ensures c.load_sealed-predecessor.ensures.answer in
+    λ nil alone. absurd (never_first c.args.head c.args.bucket c.args.pass.now.view nil c.requires.knows.0 c.requires.knows.1.known
+    c.sound.ensures.view v1 c.load_sealed-exponent.result c.load_sealed-exponent.ensures.answer v2 predecessor second c.if-predecessor-eq0.true)
+
+-- the fill is Full where its draw is,
+pub returns-in_default-clause-ledger : goal.returns-in_default-clause-ledger
+returns-in_default-clause-ledger c =
+    let head = c.args.head in
+    let bucket = c.args.bucket in
+    let v0 = c.args.pass.now.view in
+    let v1 = c.load_sealed-exponent.new.pass.view in
+    let v2 = c.load_sealed-predecessor.new.pass.view in
+    let v3 = c.load_sealed-before.new.pass.view in
+    let v4 = c.build_filling.new.pass.view in
+    let exponent = c.load_sealed-exponent.result in
+    let predecessor = c.load_sealed-predecessor.result in
+    let before = c.load_sealed-before.result in
+    let link = c.predecessor_place.result in
+    let first = c.load_sealed-exponent.ensures.answer in
+    let second = c.load_sealed-predecessor.ensures.answer in
+    let third = c.load_sealed-before.ensures.answer in
+    λ nil alone. ends_from (touch bucket) true v0 v3 v4
+    (named_same head bucket v0 nil alone head link predecessor exponent predecessor before v1 v2 v3 first second third)
+    (filling_full (record { head = head; bucket = bucket; exponent = exponent; predecessor = predecessor; before = before }) v3
+    (named_nil head bucket v0 nil alone head link predecessor exponent predecessor before v1 v2 v3 first second third)
+    (named_alone head bucket v0 nil alone head link predecessor exponent predecessor before v1 v2 v3 first second third)
+    v4 c.in_default.ensures.ledger)
+
+-- and else the exchange is won
+pub returns-clause-ledger : goal.returns-clause-ledger
+returns-clause-ledger c =
+    let head = c.args.head in
+    let bucket = c.args.bucket in
+    let place = head + FIRST_BUCKET + bucket in
+    let v0 = c.args.pass.now.view in
+    let v1 = c.load_sealed-exponent.new.pass.view in
+    let v2 = c.load_sealed-predecessor.new.pass.view in
+    let v3 = c.load_sealed-before.new.pass.view in
+    let v4 = c.build_filling.new.pass.view in
+    let v5 = c.init_bucket.new.pass.view in
+    let exponent = c.load_sealed-exponent.result in
+    let predecessor = c.load_sealed-predecessor.result in
+    let before = c.load_sealed-before.result in
+    let link = c.predecessor_place.result in
+    let first = c.load_sealed-exponent.ensures.answer in
+    let second = c.load_sealed-predecessor.ensures.answer in
+    let third = c.load_sealed-before.ensures.answer in
+    let filling : Filling = record { head = head; bucket = bucket; exponent = exponent; predecessor = predecessor; before = before } in
+    let follows = is_filling head bucket v0 c.requires.knows.0 c.requires.knows.1 v1 exponent first v2 predecessor
+    (subst (λ (place : ℕ). LoadsSealed place v1 predecessor v2) c.predecessor_place.ensures second) c.if-predecessor-eq0.false v3 before third in
+    λ nil alone.
+    let still_nil = named_nil head bucket v0 nil alone head link predecessor exponent predecessor before v1 v2 v3 first second third in
+    let still = named_alone head bucket v0 nil alone head link predecessor exponent predecessor before v1 v2 v3 first second third in
+    ends_from (touch bucket) false v0 v3 v5
+    (named_same head bucket v0 nil alone head link predecessor exponent predecessor before v1 v2 v3 first second third)
+    (either_way c.init_bucket.result _ c.init_bucket.ensures.won c.init_bucket.ensures.lost
+    (filling_won filling v3 still_nil still follows c.in-Ok.block v4 v5 c.in-Ok.ensures.answer c.in-Ok.ensures.ledger c.sound-3.ensures.view)
+    (λ _ lost. filling_lost filling v3 still_nil still follows c.in-Ok.block v4 v5 c.in-Ok.ensures.answer c.in-Ok.ensures.ledger
+    c.sound-3.ensures.view lost.2))

@@ -1,4 +1,5 @@
 pub mod Losing
 pub mod Filling
 pub mod Resizing
-pub mod Passes
+pub mod AloneFilling
+pub mod AloneResizing

@@ -73,7 +73,7 @@ pub record RefusesNext (exponent : ℕ) (old new : PassView) : Type 0 where
 
 -- A resize before its exchange: the head was loaded and so was each of its buckets, those that were nil
 -- were filled, and the generation that comes next was built.
-pub record IsReady (IsNext : ℕ → ℕ → Type 0) (head exponent at : ℕ) (old new : PassView) : Type 0
+pub record IsPrepared (IsNext : ℕ → ℕ → Type 0) (head exponent at : ℕ) (old new : PassView) : Type 0
   where
     pub start : PassView
     pub before : ℕ
@@ -99,7 +99,7 @@ pub record ChangesHead (IsNext : ℕ → ℕ → Type 0) (exponent : ℕ) (old n
   pub head : ℕ
   pub at : ℕ
   pub ready : PassView
-  pub is_ready : IsReady IsNext head exponent at old ready
+  pub is_prepared : IsPrepared IsNext head exponent at old ready
   pub swaps : SwapsHead head at ready new
   pub resizes : Resizes exponent old new
   pub unspent : old.spent ≡ None
@@ -113,7 +113,7 @@ pub record FindsMoved (IsNext : ℕ → ℕ → Type 0) (found : ℕ) (old new :
   pub exponent : ℕ
   pub at : ℕ
   pub ready : PassView
-  pub is_ready : IsReady IsNext head exponent at old ready
+  pub is_prepared : IsPrepared IsNext head exponent at old ready
   pub loses : LosesHead head ready new
   pub resizes : Resizes exponent old new
   pub unspent : old.spent ≡ None

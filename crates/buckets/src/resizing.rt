@@ -1,5 +1,12 @@
 // Exchanging the head for a generation of another size.
-ghost use Rattle.std.specs.Prelude.{◌≡◌, ◌≤◌, ◌≢◌, IfNone, IfOk, IfErr, IfSome, OnErr, OnOk};
+ghost use Rattle.std.specs.Prelude.{◌≡◌, ◌≤◌, ◌≢◌, IfNone, IfOk, IfErr, IfSome, OnErr, OnOk, is_err};
+ghost use Rattle.buckets.specs.Alone.{
+  EndsResizeAlone,
+  FillsFirstAlone,
+  FillsOneAlone,
+  IsExponentAlone,
+  LoadsAlone,
+};
 ghost use Rattle.buckets.specs.Filling.{
   FillsFirst,
   FillsOne,
@@ -18,10 +25,13 @@ ghost use Rattle.buckets.specs.Resizing.{
   LoadsExponent,
   limit_of,
   RefusesNext,
+  generation_cost,
 };
+ghost use Rattle.cells.specs.Lone.{EndsAlone};
 ghost use Rattle.cells.specs.Tokens.{IsPassOf, IsSamePass};
 ghost use Rattle.fset.specs.Ensuring.{KnowsBucketAt};
 ghost use Rattle.fset.specs.Seeking.{KnowsGenerationAt};
+ghost use Rattle.step_core.specs.Ledger.{drawing};
 ghost use Rattle.step_core.specs.Limits.{max_exponent};
 
 use crate::Resized;
@@ -34,13 +44,16 @@ use step_core::{FIRST_BUCKET, MAX_EXPONENT, bucket_count};
 ///
 /// It is AtLimit only where the exponent of the head that it loaded is 24, and draws nothing then; Full
 /// only where the pass was spent, or a draw passed the end, and some buckets may be filled then; and
-/// Moved only where another pass had exchanged the head since.
+/// Moved only where another pass had exchanged the head since. For the only pass of a round, its ledger
+/// says which of these it is, and which draws are made.
 ///
 /// After Liu, Zhang and Spear, Dynamic-sized nonblocking hash tables (PODC 2014).
 pub fn grow(round: &Round, pass: &mut Pass) -> Resized
     requires pass { IsPassOf round.now pass.old }
     ensures pass { IsSamePass pass.old pass.new }
     ensures answer { EndsResize max_exponent IsTwice result pass.old.view pass.new.view }
+    ensures ledger { pass.old.view.facts.seats ≡ 1
+        → EndsResizeAlone max_exponent IsTwice result pass.old.view pass.new.view }
 {
     resize(round, pass, Way::Grow)
 }
@@ -53,6 +66,8 @@ pub fn shrink(round: &Round, pass: &mut Pass) -> Resized
     requires pass { IsPassOf round.now pass.old }
     ensures pass { IsSamePass pass.old pass.new }
     ensures answer { EndsResize 0 IsHalf result pass.old.view pass.new.view }
+    ensures ledger { pass.old.view.facts.seats ≡ 1
+        → EndsResizeAlone 0 IsHalf result pass.old.view pass.new.view }
 {
     resize(round, pass, Way::Shrink)
 }
@@ -62,6 +77,7 @@ pub fn exponent(round: &Round, pass: &mut Pass) -> u32
     requires pass { IsPassOf round.now pass.old }
     ensures pass { IsSamePass pass.old pass.new }
     ensures answer { IsExponent result pass.old.view pass.new.view }
+    ensures ledger { IsExponentAlone result pass.old.view pass.new.view }
 {
     load_head(round, pass).exponent
 }
@@ -103,6 +119,8 @@ fn resize(round: &Round, pass: &mut Pass, way: Way) -> Resized
     ensures pass { IsSamePass pass.old pass.new }
     ensures answer { EndsResize (limit_of way) (IsNextBy way) result
         pass.old.view pass.new.view }
+    ensures ledger { pass.old.view.facts.seats ≡ 1
+        → EndsResizeAlone (limit_of way) (IsNextBy way) result pass.old.view pass.new.view }
 {
     let head = load_head(round, pass);
     round.sound(pass);
@@ -129,6 +147,8 @@ pub(crate) fn load_head(round: &Round, pass: &mut Pass) -> Head
     ensures pass { IsSamePass pass.old pass.new }
     ensures answer { LoadsExponent result.at result.exponent pass.old.view pass.new.view }
     ensures small { result.exponent ≤ max_exponent }
+    ensures ledger { pass.old.view.facts.seats ≡ 1
+        → LoadsAlone result.at result.exponent pass.old.view pass.new.view }
 {
     let at = round.load_head(pass);
     let exponent = round.load_sealed(pass, at);
@@ -147,6 +167,8 @@ pub(crate) fn fill_head(round: &Round, pass: &mut Pass, head: Head) -> Result<()
     ensures answer { OnOk result (FillsFirst head.at head.exponent (buckets_of head.exponent)
         pass.old.view pass.new.view) }
     ensures full { OnErr result (RefusesFirst head.exponent pass.old.view pass.new.view) }
+    ensures ledger { FillsFirstAlone head.at (buckets_of head.exponent) (is_err result)
+        pass.old.view pass.new.view }
 {
     round.sound(pass);
     for bucket in 0..bucket_count(head.exponent) {
@@ -162,6 +184,7 @@ fn fill(round: &Round, pass: &mut Pass, at: u64, bucket: u64) -> Result<(), Full
     ensures pass { IsSamePass pass.old pass.new }
     ensures answer { OnOk result (FillsOne at bucket pass.old.view pass.new.view) }
     ensures full { OnErr result (RefusesOne pass.old.view pass.new.view) }
+    ensures ledger { FillsOneAlone at bucket (is_err result) pass.old.view pass.new.view }
 {
     round.sound(pass);
     if round.load_bucket(pass, at + FIRST_BUCKET + bucket) == 0 {
@@ -184,6 +207,8 @@ pub(crate) fn build_next(
     ensures answer { IfOk result (λ block.
         BuildsNext head exponent block.at pass.old.view pass.new.view) }
     ensures full { OnErr result (RefusesNext exponent pass.old.view pass.new.view) }
+    ensures ledger { EndsAlone (drawing (generation_cost exponent)) (is_err result)
+        pass.old.view pass.new.view }
 {
     // All buckets of a fresh generation are nil, since the words drawn are 0.
     let mut block = round.draw(pass, FIRST_BUCKET + bucket_count(exponent))?;

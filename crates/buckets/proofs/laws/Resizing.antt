@@ -21,7 +21,7 @@ use Rattle.fset.specs.Rows.{Overdrew, OverdrewAfter, WasSpent}
 use Rattle.fset.proofs.laws.Frames.{behind_self, draws_grow, draws_own, grows_then, keys_of-none, own_then, reads_grow, reads_own, spends_after, spends_before, spends_both, spends_more}
 use Rattle.fset.proofs.laws.Looking.{head_grows}
 use Rattle.buckets.specs.Filling.{FillsFirst, KnowsExponent, LosesOpenTurn, RefusesFirst, buckets_of, nils_cost}
-use Rattle.buckets.specs.Resizing.{BuildsNext, ChangesHead, FindsMoved, IsReady, LoadsExponent, RefusesNext, RefusesResize, Resizes, generation_cost, resize_cost}
+use Rattle.buckets.specs.Resizing.{BuildsNext, ChangesHead, FindsMoved, IsPrepared, LoadsExponent, RefusesNext, RefusesResize, Resizes, generation_cost, resize_cost}
 use Rattle.buckets.proofs.laws.Filling.{filled_still, nils_cost_rises}
 
 -- At most one turn is lost.
@@ -180,8 +180,8 @@ module _ (head before : ℕ) (v0 v1 : PassView) (loads : LoadsExponent head befo
 
       module _ (at : ℕ) (builds : BuildsNext head exponent at v2 v3) where
         -- The generation was built,
-        pub is_ready : IsReady IsNext head exponent at v0 v3
-        is_ready = record { start = v1; before = before; loads = loads; next = next; small = small; filled = v2; fills = fills; builds = builds }
+        pub is_prepared : IsPrepared IsNext head exponent at v0 v3
+        is_prepared = record { start = v1; before = before; loads = loads; next = next; small = small; filled = v2; fills = fills; builds = builds }
 
         abbrev built_resizes : Resizes exponent v0 v3
         built_resizes = drawn_more (generation_cost exponent) builds.only builds.drawn (omega arith)
@@ -244,7 +244,7 @@ module _ (head before : ℕ) (v0 v1 : PassView) (loads : LoadsExponent head befo
           head = head;
           at = at;
           ready = v3;
-          is_ready = is_ready;
+          is_prepared = is_prepared;
           swaps = won;
           resizes = ended (known_block at (Generation (next_generation v3 head at)) ∷ []) v4 (won_grown v4 won)
               (record {
@@ -264,7 +264,7 @@ module _ (head before : ℕ) (v0 v1 : PassView) (loads : LoadsExponent head befo
           exponent = exponent;
           at = at;
           ready = v3;
-          is_ready = is_ready;
+          is_prepared = is_prepared;
           loses = lost;
           resizes = ended [] v4 (lost_grown v4 lost)
               (record {

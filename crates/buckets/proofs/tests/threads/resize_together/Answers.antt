@@ -1,7 +1,7 @@
 use Rattle.std.proofs.Common.{◌≡◌, List, length, sym, ap, ◌∙◌, subst, arith}
 use Rattle.cells.specs.Ends.{AreAllPasses}
 use Rattle.cells.specs.Tokens.{PassValue}
-use Rattle.buckets.proofs.laws.Passes.{EachStays, still_all, written_back}
+use Rattle.cells.proofs.laws.Fresh.{EachStays, still_all, written_back}
 use Rattle.buckets.proofs.tests.threads.resize_together.Goals as goal
 
 -- each is still of the round, and that of its number

@@ -1,6 +1,5 @@
 use Rattle.std.proofs.Common.{arith}
-use Rattle.cells.proofs.laws.Fresh.{fresh_all-is}
-use Rattle.buckets.proofs.laws.Passes.{fresh_count}
+use Rattle.cells.proofs.laws.Fresh.{fresh_all-is, fresh_count}
 use Rattle.buckets.proofs.tests.threads.words_left.Goals as goal
 
 -- the passes are all of the round as it begins

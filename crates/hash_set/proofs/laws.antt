@@ -10,4 +10,5 @@ pub mod Making
 pub mod Idle
 pub mod Looking
 pub mod Trying
+pub mod Alone
 pub mod Playing

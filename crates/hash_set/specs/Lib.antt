@@ -1,4 +1,5 @@
 pub mod OneHistory
 pub mod Lives
 pub mod Calls
+pub mod Alone
 pub mod Tests

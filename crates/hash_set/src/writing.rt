@@ -1,6 +1,7 @@
 // Inserts and removes: a call is tried until it is answered, a bounded number of times.
 ghost use Rattle.std.specs.Prelude.{◌≡◌, ◌≢◌, ◌-◌, ◌<◌, None};
 ghost use Rattle.cells.specs.Tokens.{HasNewCall, IsPassOf, IsSamePass};
+ghost use Rattle.hash_set.specs.Alone.{EndsCallAlone};
 ghost use Rattle.hash_set.specs.Calls.{BeginsCall, EndsCall};
 ghost use Rattle.set_model.specs.declared.call.Call.TheVariants.{Contains, Insert, Remove};
 ghost use Rattle.step_core.specs.Limits.{max_calls};
@@ -15,7 +16,8 @@ use set_model::Call;
 /// It is Busy only where as many turns as the plan's `fast` were lost to other passes, which never
 /// befalls the only pass of a round; and Full only where the pass was spent, or a draw of this call
 /// passed the end of the arena. After either the call has no entry in the history and will have
-/// none, and the pass can make further calls.
+/// none, and the pass can make further calls. For the only pass of a round, its ledger says which of
+/// these it is, what is drawn, and what the width is.
 pub fn insert(round: &Round, pass: &mut Pass, key: u64) -> Outcome
     requires pass { IsPassOf round.now pass.old }
     requires few { pass.old.calls < max_calls }
@@ -25,6 +27,8 @@ pub fn insert(round: &Round, pass: &mut Pass, key: u64) -> Outcome
     ensures idle { pass.new.view.flight ≡ None }
     ensures answer { EndsCall round.now.plan.fast pass.old.calls Insert key result
         pass.old.view pass.new.view }
+    ensures ledger { pass.old.view.facts.seats ≡ 1
+        → EndsCallAlone Insert key result pass.old.view pass.new.view }
 {
     round.begin_call(pass);
     change(round, pass, Call::Insert, key)
@@ -41,6 +45,8 @@ pub fn remove(round: &Round, pass: &mut Pass, key: u64) -> Outcome
     ensures idle { pass.new.view.flight ≡ None }
     ensures answer { EndsCall round.now.plan.fast pass.old.calls Remove key result
         pass.old.view pass.new.view }
+    ensures ledger { pass.old.view.facts.seats ≡ 1
+        → EndsCallAlone Remove key result pass.old.view pass.new.view }
 {
     round.begin_call(pass);
     change(round, pass, Call::Remove, key)
@@ -56,6 +62,8 @@ fn change(round: &Round, pass: &mut Pass, call: Call, key: u64) -> Outcome
     ensures idle { pass.new.view.flight ≡ None }
     ensures answer { EndsCall round.now.plan.fast (pass.old.calls - 1) call key result
         pass.old.view pass.new.view }
+    ensures ledger { pass.old.view.facts.seats ≡ 1
+        → EndsCallAlone call key result pass.old.view pass.new.view }
 {
     round.sound(pass);
     for losses in 0..round.plan().fast {

@@ -10,7 +10,8 @@ use native.Mathlib.Decide.{ℕ_discrete}
 use Rattle.cells.specs.Ends.{AreAllPasses}
 use Rattle.cells.specs.Tokens.{IsPassOf, IsSamePass, PassValue, RoundValue}
 use Rattle.hash_set.specs.Tests.{AreIdle, IsIdle, KeepEach, Keeps}
-use Rattle.hash_set.proofs.laws.Idle.{first_plan, numbers_same, still_idle}
+use Rattle.cells.proofs.laws.Fresh.{numbers_same}
+use Rattle.hash_set.proofs.laws.Idle.{first_plan, still_idle}
 
 module _ (round : RoundValue) where
   -- None has acted yet.

@@ -10,6 +10,7 @@ use step_core::{FIRST_BUCKET, bucket_count};
 
 mod crews;
 mod limits;
+mod lone;
 mod pairs;
 mod random;
 mod schedules;

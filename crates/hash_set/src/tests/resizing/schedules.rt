@@ -21,7 +21,7 @@ const STRIDE: u64 = 1 << 40;
 
 // Which keys a schedule is over.
 #[derive(Clone, Copy, Debug, PartialEq, Eq)]
-enum Pattern {
+pub(super) enum Pattern {
     // The least numbers, which spread over the buckets.
     Least,
     // The greatest numbers.
@@ -31,7 +31,7 @@ enum Pattern {
 }
 
 impl Pattern {
-    fn of_seed(seed: u64) -> Self {
+    pub(super) fn of_seed(seed: u64) -> Self {
         match seed % 3 {
             0 => Pattern::Least,
             1 => Pattern::Greatest,
@@ -40,7 +40,7 @@ impl Pattern {
     }
 
     // The key at a place, from 0. The keys rise.
-    fn key(self, place: u64) -> u64
+    pub(super) fn key(self, place: u64) -> u64
         requires { place < KEYS }
     {
         match self {
@@ -50,15 +50,16 @@ impl Pattern {
         }
     }
 
-    // Every third key.
-    fn thirds(self, alloc: Global) -> Result<Vec<u64>, NoMemory>
+    // A hundred keys, of each so many places the first.
+    pub(super) fn spread(self, alloc: Global, step: u64) -> Result<Vec<u64>, NoMemory>
+        requires step { (1 ≤ step) × (step ≤ 3) }
         ensures rising { IfOk result (λ keys. IsStrictlyIncreasing keys.items) }
         ensures count { IfOk result (λ keys. length keys.items ≡ 100) }
     {
         match self {
-            Pattern::Least => spaced(alloc, 0, 3),
-            Pattern::Greatest => spaced(alloc, GREATEST, 3),
-            Pattern::OneBucket => spaced(alloc, 0, 3 * STRIDE),
+            Pattern::Least => spaced(alloc, 0, step),
+            Pattern::Greatest => spaced(alloc, GREATEST, step),
+            Pattern::OneBucket => spaced(alloc, 0, step * STRIDE),
         }
     }
 }
@@ -141,7 +142,7 @@ impl Schedule {
         for (place, present) in self.present.iter_mut().enumerate() {
             *present = place % 3 == 0;
         }
-        self.pattern.thirds(alloc)
+        self.pattern.spread(alloc, 3)
     }
 
     // The place of a random key: every other time one of the first dozen, so that some change often.

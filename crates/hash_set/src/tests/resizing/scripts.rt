@@ -89,7 +89,7 @@ fn play(alloc: Global, room: u64, lines: &[Line<'_>]) -> Result<Played, NoMemory
 }
 
 // Writes so many words from the place on, as far as there are such.
-fn put(words: &mut [u64], at: usize, values: &[u64]) {
+pub(super) fn put(words: &mut [u64], at: usize, values: &[u64]) {
     for (offset, value) in values.iter().enumerate() {
         if let Some(word) = words.get_mut(at.wrapping_add(offset)) {
             *word = *value;

@@ -1,5 +1,6 @@
 use Rattle.std.proofs.Common.{arith}
-use Rattle.hash_set.proofs.laws.Idle.{fresh_count, fresh_idle}
+use Rattle.cells.proofs.laws.Fresh.{fresh_count}
+use Rattle.hash_set.proofs.laws.Idle.{fresh_idle}
 use Rattle.hash_set.proofs.tests.resizing.crews.kept_keys_left.Goals as goal
 
 -- all passes are idle as the round begins

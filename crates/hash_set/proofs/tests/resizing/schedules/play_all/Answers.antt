@@ -1,7 +1,7 @@
 use Rattle.std.proofs.Common.{◌≡◌, List, sym, subst, arith}
 use Rattle.cells.specs.Tokens.{PassValue}
 use Rattle.hash_set.specs.Tests.{AreIdle, KeepEach}
-use Rattle.hash_set.proofs.laws.Idle.{written_back}
+use Rattle.cells.proofs.laws.Fresh.{written_back}
 use Rattle.hash_set.proofs.laws.Playing.{all_idle}
 use Rattle.hash_set.proofs.tests.resizing.schedules.play_all.Goals as goal
 

@@ -2,7 +2,7 @@ use Rattle.std.proofs.Common.{◌≡◌, List, [], ◌∷◌, ◌++◌, sym, ap,
 use Rattle.cells.specs.Ends.{AreAllPasses}
 use Rattle.cells.specs.Tokens.{PassValue}
 use Rattle.hash_set.specs.Tests.{KeepEach}
-use Rattle.hash_set.proofs.laws.Idle.{written_back}
+use Rattle.cells.proofs.laws.Fresh.{written_back}
 use Rattle.hash_set.proofs.laws.Playing.{all_with_last}
 use Rattle.hash_set.proofs.tests.resizing.stale.look_beside.Goals as goal
 

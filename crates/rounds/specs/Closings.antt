@@ -7,6 +7,7 @@ use Rattle.set_model.specs.Keys.{is_in, keys_set}
 use Rattle.set_model.specs.declared.entry.Entry.{Entry}
 use Rattle.step_core.specs.Content.{exponent_of}
 use Rattle.step_core.specs.declared.views.RoundFacts.{RoundFacts}
+use Rattle.cells.specs.Lone.{ledger_of}
 use Rattle.cells.specs.Past.{IsInOrder, IsOfPasses, entries_by}
 use Rattle.cells.specs.Tokens.{HasBegunCalls, IsPassOf, PassValue}
 use Rattle.rounds.specs.Halts.{AreNumbered, HaltedValue}
@@ -74,6 +75,12 @@ pub record IsWholeHistory (facts : RoundFacts) (passes : List PassValue) (front 
   pub who : All (IsOfPasses facts.seats) front
   pub parts : All (HasPartOf front) passes
 
+-- the ledger of the round's only pass tells how it ends
+pub record ClosesLedger (closing : ClosingValue) (pass : PassValue) : Type 0 where
+  pub keys : closing.keys ≡ (ledger_of pass.view).keys
+  pub exponent : closing.exponent ≡ (ledger_of pass.view).exponent
+  pub next : closing.next ≡ (ledger_of pass.view).next
+
 -- this is how the halted round ends
 pub record Closes (halted : HaltedValue) (closing : ClosingValue) : Type 0 where
   pub front : closing.front ≡ halted.front
@@ -89,3 +96,4 @@ pub record Closes (halted : HaltedValue) (closing : ClosingValue) : Type 0 where
   pub count : length closing.accounts ≡ halted.round.facts.seats
   pub next : closing.next ≡ halted.round.facts.opened + all_drawn closing.accounts
   pub paid : All (IsPaidFor closing.accounts) closing.accounts
+  pub alone : halted.round.facts.seats ≡ 1 → All (ClosesLedger closing) halted.passes

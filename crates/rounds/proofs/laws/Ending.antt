@@ -1,5 +1,5 @@
 -- What a halted round ends with is what its closing says.
-use Rattle.std.proofs.Common.{◌≡◌, ℕ, ◌+◌, List, [], ◌∷◌, ◌++◌, All, Option, None, append-nil, map, slice_index_or, sum, sum_by, refl, ap, sym, ◌∙◌, arith}
+use Rattle.std.proofs.Common.{◌≡◌, ℕ, ◌+◌, List, [], ◌∷◌, ◌++◌, All, Option, None, append-nil, map, slice_index, slice_index_or, sum, sum_by, refl, ap, sym, ◌∙◌, subst, arith}
 use Rattle.std.specs.Cmp.{nat_cmp_total}
 use Rattle.std.specs.FinSet as set
 use Rattle.std.specs.List.Sorted.{IsStrictlyIncreasing}
@@ -7,17 +7,24 @@ use Rattle.std.proofs.lemmas.List.{length-map}
 use Rattle.std.proofs.lemmas.List.Elements.{All-map}
 use Rattle.std.proofs.lemmas.List.Sums.{sum-map}
 use Rattle.std.proofs.lemmas.List.Sorted.{sum_by-IsPermutation}
-use Rattle.set_model.specs.History.{set_after}
-use Rattle.set_model.specs.Keys.{keys_set}
+use Rattle.set_model.specs.History.{members_after, set_after}
+use Rattle.set_model.specs.Keys.{is_in, keys_set}
 use Rattle.set_model.specs.declared.entry.Entry.{Entry}
 use Rattle.step_core.specs.Content.{HasMembers, exponent_of}
 use Rattle.step_core.specs.Format.{next_of}
 use Rattle.step_core.specs.declared.views.PassView.{PassView}
 use Rattle.step_core.specs.declared.views.RoundFacts.{RoundFacts}
+use Rattle.step_core.proofs.lists.Histories.{same_members_are_one}
+use Rattle.step_core.proofs.seen.Members.{is_member-held}
+use Rattle.step_core.proofs.seen.Predecessor.{exponent_shown, head_same}
 use Rattle.cells.specs.Ends.{EndsRound, HasView}
+use Rattle.cells.specs.Lone.{KnowsTable, head_generation, ledger_of}
 use Rattle.cells.specs.Past.{flying_entry}
 use Rattle.cells.specs.Tokens.{HasBegunCalls, IsPassOf, PassValue}
-use Rattle.rounds.specs.Closings.{AccountValue, Closes, HasPartOf, IsPaidFor, IsWholeHistory, account_of, all_drawn, all_won}
+use Rattle.cells.proofs.laws.Lone.{ledger_of-exponent, ledger_of-next}
+use Rattle.cells.proofs.laws.LoneRound.{finds_next, lone_front}
+use Rattle.cells.proofs.laws.Outcomes.{ledger_has, ledger_rises}
+use Rattle.rounds.specs.Closings.{AccountValue, Closes, ClosesLedger, ClosingValue, HasPartOf, IsPaidFor, IsWholeHistory, account_of, all_drawn, all_won}
 use Rattle.rounds.specs.Halts.{AreAtRest, AreNumbered, HaltedValue}
 use Rattle.rounds.proofs.laws.Halting.{numbered_count}
 
@@ -86,6 +93,54 @@ module _ (facts : RoundFacts) (passes : List PassValue) (words : List ℕ) (hist
       let pass = slice_index_or passes k d in
       omega (arith, won, (ends.holds.paid pass.view.number pass.view (ends.views k d within)).lost))
 
+  module _ (alone : facts.seats ≡ 1) (pass : PassValue) (there : HasView ends.state pass) where
+    -- the facts that the round's only pass knows
+    same_facts : pass.view.facts ≡ facts
+    same_facts = (ends.holds.fits.numbered pass.view.number pass.view there).same_round
+
+    -- the table that it knows
+    table : KnowsTable ends.state.head ends.state.blocks ends.state.cells pass.view
+    table = ends.holds.alone pass.view.number pass.view there alone
+
+    -- the keys that the words hold are those of its ledger, since it has seen the whole history,
+    ledger_keys : (keys : List ℕ) → HasMembers words (keys_set keys) → IsStrictlyIncreasing keys → keys ≡ (ledger_of pass.view).keys
+    ledger_keys keys members rises =
+        let rising = subst (λ (f : RoundFacts). IsStrictlyIncreasing f.keys) (sym same_facts) ends.holds.small.rising in
+        let front = lone_front ends.holds pass.view.number pass.view there alone in
+        same_members_are_one keys (ledger_of pass.view).keys rises (ledger_rises pass.view rising) (λ key.
+        sym (set.contains-from_list_nat keys key)
+        ∙ members key
+        ∙ is_member-held ends.holds.fits.holds key
+        ∙ ends.holds.members key
+        ∙ sym (ledger_has pass.view rising key ∙ (λ i. members_after (is_in (same_facts i).keys) (front i) key)))
+
+    -- the head's exponent is the ledger's,
+    ledger_exponent : exponent_of words ≡ (ledger_of pass.view).exponent
+    ledger_exponent =
+        ap (slice_index words) (head_same ends.holds.fits.holds)
+        ∙ exponent_shown ends.holds.fits.holds ends.state.head (head_generation pass.view) table.generation
+        ∙ sym (ledger_of-exponent pass.view)
+
+    -- and so is NEXT
+    ledger_next : next_of words ≡ (ledger_of pass.view).next
+    ledger_next =
+        let found = finds_next ends.holds pass.view.number pass.view there same_facts in
+        ends.holds.fits.holds.laid.fixed_words.next_shown
+        ∙ found.alone (ap (λ (f : RoundFacts). f.seats) same_facts ∙ alone)
+        ∙ sym (ledger_of-next pass.view)
+
+  -- So the ledger of the only pass tells how the round ends.
+  pub closing_ledger : (closing : ClosingValue) → HasMembers words (keys_set closing.keys) → IsStrictlyIncreasing closing.keys
+      → closing.exponent ≡ exponent_of words → closing.next ≡ next_of words → facts.seats ≡ 1 → All (ClosesLedger closing) passes
+  closing_ledger closing members rises is_exponent is_next alone k d within =
+      let pass = slice_index_or passes k d in
+      let there = ends.views k d within in
+      record {
+        keys = ledger_keys alone pass there closing.keys members rises;
+        exponent = is_exponent ∙ ledger_exponent alone pass there;
+        next = is_next ∙ ledger_next alone pass there;
+      }
+
 -- With the keys that the words hold, and their exponent and NEXT, it is how the halted round ends.
 pub closes : (halted : HaltedValue) (keys : List ℕ) (exponent next : ℕ)
     → EndsRound halted.round.facts halted.passes halted.words halted.front
@@ -102,6 +157,13 @@ pub closes : (halted : HaltedValue) (keys : List ℕ) (exponent next : ℕ)
     })
 closes halted keys exponent next ends ours numbered idle members rising is_exponent is_next =
     let facts = halted.round.facts in
+    let closing : ClosingValue = record {
+      keys = keys;
+      exponent = exponent;
+      next = next;
+      front = halted.front;
+      accounts = map account_of halted.passes;
+    } in
     record {
       front = refl;
       history = whole_history facts halted.passes halted.words halted.front ends idle;
@@ -114,4 +176,5 @@ closes halted keys exponent next ends ours numbered idle members rising is_expon
       count = length-map halted.passes account_of ∙ numbered_count halted.round halted.passes numbered;
       next = is_next ∙ closing_next facts halted.passes halted.words halted.front ends idle;
       paid = closing_paid facts halted.passes halted.words halted.front ends idle;
+      alone = closing_ledger facts halted.passes halted.words halted.front ends idle closing members rising is_exponent is_next;
     }

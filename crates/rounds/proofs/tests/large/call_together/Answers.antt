@@ -1,7 +1,8 @@
 use Rattle.std.proofs.Common.{◌≡◌, List, length, sym, ap, ◌∙◌, subst, arith}
 use Rattle.cells.specs.Tokens.{PassValue}
 use Rattle.hash_set.specs.Tests.{AreIdle}
-use Rattle.hash_set.proofs.laws.Idle.{EachIdle, first_plan, still_idle, written_back}
+use Rattle.cells.proofs.laws.Fresh.{written_back}
+use Rattle.hash_set.proofs.laws.Idle.{EachIdle, first_plan, still_idle}
 use Rattle.rounds.proofs.tests.large.call_together.Goals as goal
 
 -- each was left idle

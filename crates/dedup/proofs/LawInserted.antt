@@ -90,14 +90,3 @@ module _ {records : List IdRecord} {turns : ℕ} {rounds : List RoundEnd} {keys 
         changing_are = subst (λ numbers. IsPermutation numbers (changing ++ ended.changed.items)) (sym (changing_of-push rounds round))
             (IsPermutation-append (changing_of rounds) changing (changing_in round) ended.changed.items inserted.changing_are ends.changing);
       }
-
--- before the first round all records are still to come
-pub inserted_none : (records : List IdRecord) (turns : ℕ)
-    → HasInserted records turns [] [] (range_with_len 0 (length records)) []
-inserted_none records turns = record {
-  chain = subst (λ count. IsRunChain (asked_of records) turns [] (range_with_len 0 count)) (length-map records asks)
-      (chain_none (asked_of records) turns);
-  keys_are = λ key. refl;
-  rising = λ k less. absurd (omega (arith, less));
-  changing_are = IsPermutation-refl [];
-}

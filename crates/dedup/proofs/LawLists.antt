@@ -64,10 +64,3 @@ numbers_in_row {X = X} number xs each =
     let its = element xs k inside in
     get_or-map number xs k its.0 d inside ∙ each k its.0 inside
     ∙ omega (arith, get_or-range_with_len 0 (length xs) k d inside))
-
--- A slice of a whole vector, written back, is the vector.
-pub written_back : {X : Type 0} (items new : List X) (len : ℕ) → length new ≡ length items → len ≡ length items
-    → take len (new ++ drop (length new) items) ≡ new
-written_back items new len long same =
-    ap (λ list. take len (new ++ list)) (drop_all (length new) items (omega (arith, long)))
-    ∙ ap (take len) (append-nil new) ∙ take_all len new (omega (arith, long, same))

@@ -8,7 +8,7 @@ use Rattle.dedup.specs.Crews.{HasMemory, HaveDone}
 use Rattle.dedup.specs.Workers.{HasWorked, IsReady}
 use Rattle.dedup.specs.declared.worker.Worker.{Worker}
 use Rattle.dedup.proofs.LawCrews.{crew_done, crew_ready}
-use Rattle.dedup.proofs.LawLists.{written_back}
+use Rattle.cells.proofs.laws.Fresh.{written_back}
 use Rattle.dedup.proofs.one_round.worked.Goals as goal
 
 -- there are as many passes as the round has

@@ -11,7 +11,7 @@ use Rattle.set_model.specs.Keys.{is_in}
 use Rattle.set_model.specs.declared.call.Call.TheVariants.{Insert}
 use Rattle.set_model.specs.declared.entry.Entry.{Entry}
 use Rattle.step_core.specs.declared.views.PassView.{PassView}
-use Rattle.cells.specs.Tokens.{PassValue, RoundValue, fresh_pass}
+use Rattle.cells.specs.Tokens.{IsSamePass, PassValue, RoundValue, fresh_pass}
 use Rattle.fset.specs.declared.outcomes.Answered.{Answered}
 use Rattle.fset.specs.Content.{front_has}
 use Rattle.fset.specs.Frames.{KeepsOwn}
@@ -31,6 +31,24 @@ made_none asked turns round number = record {
   mine = All-nil (IsMine asked [] (fresh_pass round number));
   changing = refl;
   answered = λ serial below. absurd (omega (arith, below));
+  refusal = λ is. absurd (cc);
+}
+
+-- beside its calls a pass may do what makes no entry: what it did with them stays told where its front only grew
+pub made_stays : (asked : List Asked) (turns : ℕ) (made changed : List ℕ) (old new : PassValue) → HasMade asked turns made changed false old
+    → IsSamePass old new → IsPrefix old.view.front new.view.front → KeepsOwn old.view new.view → HasMade asked turns made changed false new
+made_stays asked turns made changed old new before same grows own = record {
+  calls = same.calls ∙ before.calls;
+  mine = All-same (IsMine asked made new) new.view.mine old.view.mine own.mine
+      (All-weaker (IsMine asked made old) (IsMine asked made new)
+      (λ entry is. record { who = is.who ∙ sym same.number; begun = is.begun; call = is.call; key = is.key }) old.view.mine before.mine);
+  changing = before.changing ∙ sym (ap (λ entries. map (λ entry. slice_index made entry.serial) (filter is_changing entries)) own.mine);
+  answered = λ serial below. elim (before.answered serial below) as (λ _. WasAnswered asked made new serial) [
+    | inl any ↦ inl (subst (Any (λ entry. entry.serial ≡ serial)) (sym own.mine) any)
+    | inr was ↦ inr (subst (λ facts. WasReading (is_in facts.keys) new.view.front (asked_at asked (slice_index made serial)))
+        (sym same.facts) (reading_begins (is_in old.view.facts.keys) old.view.front new.view.front
+        (asked_at asked (slice_index made serial)) grows was))
+  ];
   refusal = λ is. absurd (cc);
 }
 

@@ -1,22 +1,23 @@
 -- A crew that has done its parts hands in its round: it ends as one of a chain.
-use Rattle.std.proofs.Common.{◌≡◌, ◌+◌, ◌-◌, ◌<◌, ◌≤◌, ℕ, Bool, List, ◌++◌, drop, flat_map, length, map, slice_index_or, take, None, inl, inr, sym, ap, ◌∙◌, subst, arith}
+use Rattle.std.proofs.Common.{◌≡◌, ◌-◌, ◌<◌, ◌≤◌, ℕ, Bool, List, ◌++◌, drop, flat_map, length, map, slice_index_or, take, None, inl, inr, sym, ap, ◌∙◌, subst, arith}
 use Rattle.std.specs.FinSet as set
 use Rattle.std.specs.List.{All, filter, range_with_len}
 use Rattle.std.specs.List.Sorted.{IsPermutation}
 use Rattle.std.proofs.lemmas.Bool.{cases_Bool}
-use Rattle.std.proofs.lemmas.List.{drop-drop, drop-take, get_or-map, length-append, length-map}
+use Rattle.std.proofs.lemmas.List.{get_or-map, length-append, length-map}
 use Rattle.std.proofs.lemmas.List.Elements.{All-drop, All-map, All-same, All-take}
 use Rattle.std.proofs.lemmas.List.FromFn.{length-range_with_len}
 use Rattle.std.proofs.lemmas.List.Folds.{flat_map-map}
 use Rattle.std.proofs.lemmas.List.Sorted.{IsPermutation-refl}
 use Rattle.std.proofs.lemmas.Simd.{map-map}
-use Rattle.std.proofs.Math.Seq.{drop-append_seam, take-append_seam}
+use Rattle.std.proofs.Math.Seq.{take-append_seam}
 use Rattle.set_model.specs.History.{members_after, set_after}
 use Rattle.set_model.specs.Keys.{is_in, keys_set}
 use Rattle.set_model.proofs.LawHistory.{sets_and_tests_agree, set_after-append}
 use Rattle.cells.specs.Ends.{AreAllPasses}
 use Rattle.cells.specs.Tokens.{IsPassOf, PassValue, RoundValue}
-use Rattle.rounds.specs.Closings.{ClosingValue}
+use Rattle.rounds.specs.Closings.{ClosesLedger, ClosingValue}
+use Rattle.step_core.specs.declared.views.RoundFacts.{RoundFacts}
 use Rattle.rounds.specs.Halts.{AreAtRest, number_of}
 use Rattle.chain.specs.Chain.{IsRunRound, RoundEnd, entries_of, number_of_entry, numbers_in}
 use Rattle.chain.specs.Changing.{changing_in, is_changing}
@@ -25,7 +26,7 @@ use Rattle.chain.proofs.Changed.{changing_is}
 use Rattle.chain.proofs.Rounding.{round_is}
 use Rattle.idfiles.specs.declared.id_record.IdRecord.{IdRecord}
 use Rattle.step_core.specs.Limits.{max_passes}
-use Rattle.dedup.specs.Crews.{HasPart, HaveDone, rest_of}
+use Rattle.dedup.specs.Crews.{HaveDone, rest_of}
 use Rattle.dedup.specs.Records.{asked_of}
 use Rattle.dedup.specs.Rounds.{AddsRound, ClosesRound, SettlesRound, lists_in, round_ended}
 use Rattle.dedup.specs.Settling.{CanSettle, handed_in, lists_of}
@@ -34,24 +35,9 @@ use Rattle.dedup.specs.declared.one_round.EndedRound.{EndedRound}
 use Rattle.dedup.specs.declared.worker.Hand.{Hand}
 use Rattle.dedup.specs.declared.worker.Worker.{Worker}
 use Rattle.dedup.proofs.LawLists.{element, numbered_is_one}
+use Rattle.dedup.proofs.LawLone.{leaves_lone}
 use Rattle.dedup.proofs.LawParts.{HasSplit, begun_and_rest, rest-less}
-
--- the numbers of the records whose inserts a worker began
-abbrev begun_by : Worker → List ℕ
-begun_by worker = worker.hand.made.items
-
--- what a front leaves of a part is the part's end
-rest_is : (left : List ℕ) (worker : Worker) (rest : List ℕ) → HasPart left worker → part_of left worker ≡ begun_by worker ++ rest
-    → rest ≡ rest_of left worker
-rest_is left worker rest part front =
-    let from = worker.from in
-    let begun = length (begun_by worker) in
-    let more = worker.to - (from + begun) in
-    let long : worker.to - from ≡ begun + more = omega (arith, part.begun) in
-    sym (drop-append_seam (begun_by worker) rest)
-    ∙ ap (drop begun) (sym front ∙ ap (λ n. take n (drop from left)) long)
-    ∙ drop-take begun more (drop from left)
-    ∙ ap (take more) (drop-drop begun from left)
+use Rattle.dedup.proofs.LawRests.{begun_by, rest_is}
 
 module _ (records : List IdRecord) (round : RoundValue) (left : List ℕ) (workers : List Worker) (job : IsJob records round left)
     (done : HaveDone records round left workers) where
@@ -71,6 +57,9 @@ module _ (records : List IdRecord) (round : RoundValue) (left : List ℕ) (worke
   count =
       sym (length-map workers (λ (worker : Worker). worker.pass.view.number)) ∙ ap length done.numbered
       ∙ length-range_with_len 0 round.facts.seats
+
+  planned : round.facts.seats ≡ round.plan.seats
+  planned = ap (λ (facts : RoundFacts). facts.seats) job.opened
 
   numbers : map number_of passes ≡ range_with_len 0 round.facts.seats
   numbers = map-map number_of (λ (worker : Worker). worker.pass) workers ∙ done.numbered
@@ -235,7 +224,7 @@ module _ (records : List IdRecord) (round : RoundValue) (left : List ℕ) (worke
 
       -- the round is one of a chain, and leaves its keys and what its workers didn't come to
       pub ends_round : rests ≡ flat_map (rest_of left) workers → 0 < length left
-          → AddsRound records round.facts.seats round.plan.fast round.facts.keys left ended
+          → AddsRound records round.plan round.facts.keys left ended
       ends_round are some =
           let left_is : ended.left.items ≡ flat_map (rest_of left) workers = settles.left_is ∙ are in
           let begun : numbers_in (lists_in ended.made) ≡ flat_map begun_by workers = ap numbers_in settles.made_is ∙ begun_all in
@@ -261,5 +250,11 @@ module _ (records : List IdRecord) (round : RoundValue) (left : List ℕ) (worke
             );
             changing = subst (λ (r : RoundEnd). IsPermutation (changing_in r) ended.changed.items) same_round changed_are;
             workers = ap length settles.made_is ∙ length-map hands (λ (hand : Hand). hand.made.items)
-                ∙ length-map workers (λ (worker : Worker). worker.hand) ∙ count;
+                ∙ length-map workers (λ (worker : Worker). worker.hand) ∙ count ∙ planned;
+            lone = λ one.
+                let single : round.facts.seats ≡ 1 = planned ∙ one in
+                leaves_lone records round left workers closing rests ended single (count ∙ single) done
+                (subst (All (ClosesLedger closing)) (sym same_passes)
+                (closes.closes.alone (ap (λ (r : RoundValue). r.facts.seats) closes.halts.round ∙ single)))
+                closes.closes.rising settles are;
           }

@@ -15,6 +15,7 @@ use Rattle.dedup.specs.declared.worker.Stop.{Stop}
 use Rattle.dedup.specs.declared.worker.Stop.TheVariants.{Finished, Refused, NoMemory}
 use Rattle.dedup.specs.declared.worker.Worker.{Worker}
 use Rattle.dedup.proofs.LawCuts.{cut_first, cut_last, cut_rises, cut_within, tiles_all}
+use Rattle.dedup.proofs.LawLone.{serves_none}
 use Rattle.dedup.proofs.LawLists.{numbers_in_row}
 
 -- one worker more, cut as the others
@@ -78,6 +79,7 @@ module _ (records : List IdRecord) (round : RoundValue) (left : List ℕ) (passe
           ours = subst (IsPassOf round) (sym pass) (record { table = refl; facts = refl });
           idle = ap (λ (p : PassValue). p.view.flight) pass;
           did = made;
+          serves = serves_none records round worker.hand worker.pass k job.opened pass is.made;
         };
       }
 

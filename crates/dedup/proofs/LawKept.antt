@@ -19,6 +19,7 @@ use Rattle.chain.proofs.Recorded.{IsRecorded}
 use Rattle.idfiles.specs.declared.id_record.IdRecord.{IdRecord}
 use Rattle.dedup.specs.Records.{AreDistinctIds, AreKept, AreSorted, asked_of, ids_of, no_record, records_at}
 use Rattle.dedup.specs.Rounds.{HasInserted}
+use Rattle.step_core.specs.declared.layout.Plan.{Plan}
 use Rattle.dedup.proofs.LawRecords.{ask_inserts, asks, keys_asked-records, keys_of_numbers-records}
 
 -- records that don't fall by id have ids that don't fall
@@ -40,8 +41,8 @@ distinct records ids rising same = record {
   only = λ others rise have. rising_list_is_one others ids rise rising (have ∙ sym same);
 }
 
-module _ {records : List IdRecord} {turns : ℕ} {rounds : List RoundEnd} {keys changing : List ℕ}
-    (inserted : HasInserted records turns rounds keys [] changing) where
+module _ {records : List IdRecord} {plan : Plan} {rounds : List RoundEnd} {keys changing : List ℕ}
+    (inserted : HasInserted records plan rounds keys [] changing) where
   -- the keys are the distinct ids
   pub distinct_ids : AreDistinctIds records keys
   distinct_ids =
@@ -49,7 +50,7 @@ module _ {records : List IdRecord} {turns : ℕ} {rounds : List RoundEnd} {keys 
       (set.same_set nat_cmp_total set.nat_cmp-IsAntisymmetric (keys_set keys) (keys_set (ids_of records)) (λ key.
       set.contains-from_list_nat keys key
       ∙ inserted.keys_are key
-      ∙ inserts_members (asked_of records) turns rounds inserted.chain (ask_inserts records) key
+      ∙ inserts_members (asked_of records) plan.fast rounds inserted.chain (ask_inserts records) key
       ∙ ap (λ all. is_in all key) (keys_asked-records records)
       ∙ sym (set.contains-from_list_nat (ids_of records) key)))
 
@@ -57,7 +58,7 @@ module _ {records : List IdRecord} {turns : ℕ} {rounds : List RoundEnd} {keys 
   pub kept_are : (kept : List IdRecord) → AreSorted records changing kept → AreKept records rounds kept
   kept_are kept sorted =
       let asked = asked_of records in
-      let once = inserts_once asked turns rounds inserted.chain (ask_inserts records) in
+      let once = inserts_once asked plan.fast rounds inserted.chain (ask_inserts records) in
       let moved : IsPermutation (records_at records (changing_of rounds)) kept =
       IsPermutation-trans (records_at records (changing_of rounds)) (records_at records changing) kept
       (IsPermutation-map (λ number. slice_index_or records number no_record) (changing_of rounds) changing inserted.changing_are) sorted.same in
@@ -99,9 +100,9 @@ changing_of-begun asked (round ∷ rounds) recorded =
     (changing_of rounds) (changing_of-begun asked rounds (All-tail (IsRecorded asked) round rounds recorded)))
 
 -- the changing numbers are those of records
-pub changing_below : {records : List IdRecord} {turns : ℕ} {rounds : List RoundEnd} {keys left changing : List ℕ}
-    → HasInserted records turns rounds keys left changing → All (λ number. number < length records) changing
-changing_below {records = records} {turns = turns} {rounds = rounds} {keys = keys} {left = left} {changing = changing} inserted =
+pub changing_below : {records : List IdRecord} {plan : Plan} {rounds : List RoundEnd} {keys left changing : List ℕ}
+    → HasInserted records plan rounds keys left changing → All (λ number. number < length records) changing
+changing_below {records = records} {plan = plan} {rounds = rounds} {keys = keys} {left = left} {changing = changing} inserted =
     let asked = asked_of records in
     let Is : ℕ → Type 0 = λ number. number < length records in
     All-permutation Is (changing_of rounds) changing inserted.changing_are

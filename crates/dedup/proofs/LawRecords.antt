@@ -1,5 +1,5 @@
 -- What the records ask of the set, by their numbers: each that its id is put in.
-use Rattle.std.proofs.Common.{◌≡◌, ℕ, List, [], ◌∷◌, slice_index_or, refl, ap₂}
+use Rattle.std.proofs.Common.{◌≡◌, ℕ, zero, suc, ◌+◌, ◌<◌, List, [], ◌∷◌, ◌++◌, length, slice_index, slice_index_or, refl, ap, ap₂, arith}
 use Rattle.std.specs.List.{All}
 use Rattle.std.proofs.lemmas.List.Elements.{All-map}
 use Rattle.std.proofs.Math.ListN.{get_or-map}
@@ -7,7 +7,7 @@ use Rattle.set_model.specs.declared.call.Call.TheVariants.{Insert}
 use Rattle.chain.specs.Chain.{Asked, asked_at}
 use Rattle.chain.specs.Changing.{keys_asked, keys_of_numbers}
 use Rattle.idfiles.specs.declared.id_record.IdRecord.{IdRecord}
-use Rattle.dedup.specs.Records.{asked_of, ids_of, no_record, records_at}
+use Rattle.dedup.specs.Records.{asked_of, ids_at, ids_of, no_record, records_at}
 
 -- what a record asks
 abbrev pub asks : IdRecord → Asked
@@ -33,3 +33,26 @@ pub keys_of_numbers-records : (records : List IdRecord) (numbers : List ℕ)
 keys_of_numbers-records records [] = refl
 keys_of_numbers-records records (number ∷ numbers) =
     ap₂ (λ (call : Asked) (ids : List ℕ). call.key ∷ ids) (asked_at-record records number) (keys_of_numbers-records records numbers)
+
+-- the ids of two lists of numbers, one behind the other
+pub ids_at-append : (records : List IdRecord) (numbers others : List ℕ)
+    → ids_at records (numbers ++ others) ≡ ids_at records numbers ++ ids_at records others
+ids_at-append records [] others = refl
+ids_at-append records (number ∷ numbers) others =
+    ap (λ (ids : List ℕ). (slice_index_or records number no_record).id ∷ ids) (ids_at-append records numbers others)
+
+-- there are as many as numbers
+pub length-ids_at : (records : List IdRecord) (numbers : List ℕ) → length (ids_at records numbers) ≡ length numbers
+length-ids_at records [] = refl
+length-ids_at records (number ∷ numbers) =
+    let others = length-ids_at records numbers in
+    let same : length (number ∷ numbers) ≡ length numbers + 1 = omega arith in
+    let more : length (ids_at records (number ∷ numbers)) ≡ length (ids_at records numbers) + 1 = omega arith in
+    omega (arith, others, same, more)
+
+-- that at a place is the id of the record whose number stands there
+pub ids_at-place : (records : List IdRecord) (numbers : List ℕ) (place : ℕ) → place < length numbers
+    → slice_index (ids_at records numbers) place ≡ (slice_index_or records (slice_index numbers place) no_record).id
+ids_at-place records [] place within = absurd (omega (arith, within))
+ids_at-place records (number ∷ numbers) zero within = refl
+ids_at-place records (number ∷ numbers) (suc place) within = ids_at-place records numbers place (omega (arith, within))

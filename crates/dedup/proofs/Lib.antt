@@ -2,13 +2,17 @@ mod LawClosing
 mod LawCrews
 mod LawCuts
 mod LawEnds
+mod LawGrowing
 mod LawHands
 mod LawInputs
 mod LawInserted
 mod LawKept
 mod LawKinds
 mod LawLists
+mod LawLone
 mod LawParts
 mod LawRecords
+mod LawRests
 mod LawRounds
+mod LawServing
 mod LawSettling

@@ -1,7 +1,9 @@
 pub mod Crews
 pub mod Fault
+pub mod Growing
 pub mod Inputs
 pub mod Limits
+pub mod LoneRun
 pub mod Modeled
 pub mod Output
 pub mod Records

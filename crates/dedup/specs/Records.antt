@@ -30,6 +30,10 @@ no_record = record { file = 0; line = 0; id = 0 }
 abbrev pub records_at : List IdRecord → List ℕ → List IdRecord
 records_at records numbers = map (λ number. slice_index_or records number no_record) numbers
 
+-- their ids
+abbrev pub ids_at : List IdRecord → List ℕ → List ℕ
+ids_at records numbers = ids_of (records_at records numbers)
+
 -- these are the records with the numbers, in an order by which their ids don't fall
 pub record AreSorted (records : List IdRecord) (numbers : List ℕ) (sorted : List IdRecord)
     : Type 0 where

@@ -17,8 +17,9 @@ use Rattle.rounds.specs.Halts.{HaltedValue, Halts}
 use Rattle.step_core.specs.Limits.{max_keys}
 use Rattle.step_core.specs.Plans.{IsPlan}
 use Rattle.step_core.specs.declared.layout.Plan.{Plan}
-use Rattle.dedup.specs.Limits.{most_room}
-use Rattle.dedup.specs.Records.{asked_of}
+use Rattle.dedup.specs.Limits.{most_room, tried_turns}
+use Rattle.dedup.specs.LoneRun.{IsLoneRound, IsLoneRun, ids_left, keys_left}
+use Rattle.dedup.specs.Records.{asked_of, ids_at, ids_of}
 use Rattle.dedup.specs.Settling.{handed_in, lists_of}
 use Rattle.dedup.specs.declared.worker.Hand.{Hand}
 use Rattle.dedup.specs.declared.one_round.EndedRound.{EndedRound}
@@ -46,6 +47,10 @@ round_ended ended = round_of ended.closing ended.settled ended.made
 -- so many workers were in the round
 abbrev pub HasWorkers : ℕ → RoundEnd → Type 0
 HasWorkers count round = length round.made ≡ count
+
+-- the plan of a run's rounds for so many workers and so much room
+abbrev pub plan_of : ℕ → ℕ → Plan
+plan_of workers room = record { seats = workers; fast = tried_turns; turns = 0; room = room }
 
 -- the plan of a run's rounds: none of its calls is announced, and its room is at most 2^27 words
 pub record IsRunPlan (plan : Plan) : Type 0 where
@@ -79,24 +84,42 @@ pub record SettlesRound (records : List IdRecord) (closing : ClosingValue) (hand
   pub rising : IsStrictlyIncreasing ended.keys.items
   pub left_is : ended.left.items ≡ left
 
--- A round that began with the keys, while the records with the numbers in `left` were still to come:
--- it is one of a chain, how many workers it had, and what it leaves for the next one.
-pub record AddsRound (records : List IdRecord) (seats turns : ℕ) (keys left : List ℕ)
+-- A round with one worker ended as its ledger makes it, and so did what it leaves for the next one.
+pub record LeavesLone (records : List IdRecord) (room : ℕ) (keys left : List ℕ) (ended : EndedRound)
+    : Type 0 where
+  pub round : IsLoneRound room keys (ids_at records left) (round_ended ended)
+  pub keys_are : ended.keys.items ≡ keys_left (round_ended ended)
+  pub left_are : ids_at records ended.left.items ≡ ids_left room keys (ids_at records left)
+
+-- A round of the plan that began with the keys, while the records with the numbers in `left` were still
+-- to come: it is one of a chain, how many workers it had, and what it leaves for the next one.
+pub record AddsRound (records : List IdRecord) (plan : Plan) (keys left : List ℕ)
     (ended : EndedRound) : Type 0 where
-  pub round : IsRunRound (asked_of records) turns (is_in keys) (round_ended ended)
+  pub round : IsRunRound (asked_of records) plan.fast (is_in keys) (round_ended ended)
   pub keys_are : (key : ℕ) → is_in ended.keys.items key
       ≡ members_after (is_in keys) (entries_of (round_ended ended)) key
   pub rising : IsStrictlyIncreasing ended.keys.items
   pub left_are : IsPermutation left (numbers_in (lists_in ended.made) ++ ended.left.items)
   pub fewer : length ended.left.items < length left
   pub changing : IsPermutation (changing_in (round_ended ended)) ended.changed.items
-  pub workers : HasWorkers seats (round_ended ended)
+  pub workers : HasWorkers plan.seats (round_ended ended)
+  pub lone : plan.seats ≡ 1 → LeavesLone records plan.room keys left ended
 
--- These rounds are a chain over the records, of which those in `left` are still to come. The set has
--- the keys, and these are the numbers of the records whose insert changed it.
-pub record HasInserted (records : List IdRecord) (turns : ℕ) (rounds : List RoundEnd)
+-- These rounds of the plan are a chain over the records, of which those in `left` are still to come,
+-- and with one worker they are what its ledgers make of the records.
+pub record IsRunSoFar (records : List IdRecord) (plan : Plan) (rounds : List RoundEnd)
+    (left : List ℕ) : Type 0 where
+  pub chain : IsRunChain (asked_of records) plan.fast rounds left
+  pub lone : plan.seats ≡ 1 → (keys : List ℕ)
+      × IsLoneRun plan.room [] (ids_of records) rounds keys (ids_at records left)
+
+-- So it is with these rounds. The set has the keys, and these are the numbers of the records whose
+-- insert changed it.
+pub record HasInserted (records : List IdRecord) (plan : Plan) (rounds : List RoundEnd)
     (keys left changing : List ℕ) : Type 0 where
-  pub chain : IsRunChain (asked_of records) turns rounds left
+  pub chain : IsRunChain (asked_of records) plan.fast rounds left
+  pub lone : plan.seats ≡ 1
+      → IsLoneRun plan.room [] (ids_of records) rounds keys (ids_at records left)
   pub keys_are : (key : ℕ) → is_in keys key ≡ members_after no_key (chain_of rounds) key
   pub rising : IsStrictlyIncreasing keys
   pub changing_are : IsPermutation (changing_of rounds) changing

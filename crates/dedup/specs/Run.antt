@@ -4,51 +4,55 @@ use Rattle.std.specs.Io.KnownBytes.{Appends, Keeps}
 use Rattle.std.specs.declared.alloc.Global.{Global}
 use Rattle.outside.specs.Faults.{Rose, one_more}
 use Rattle.outside.specs.Files.{Files}
-use Rattle.chain.specs.Chain.{IsRunChain, RoundEnd}
+use Rattle.chain.specs.Chain.{RoundEnd}
 use Rattle.idfiles.specs.declared.fault.IdFault.{IdFault}
 use Rattle.idfiles.specs.declared.fault.IdFault.TheVariants.{NoMemory}
 use Rattle.dedup.specs.Fault.{ending_line, status_of}
 use Rattle.dedup.specs.Inputs.{AreContents, SaysOf, run_fault, run_records}
-use Rattle.dedup.specs.Limits.{tried_turns}
 use Rattle.dedup.specs.Output.{IsListing}
-use Rattle.dedup.specs.Records.{asked_of}
-use Rattle.dedup.specs.Words.{files_named, is_command, list_asked}
+use Rattle.dedup.specs.Rounds.{IsRunSoFar, plan_of}
+use Rattle.step_core.specs.declared.layout.Plan.{Plan}
+use Rattle.dedup.specs.Words.{files_named, is_command, list_asked, room_asked, workers_asked}
 use Rattle.dedup.specs.declared.command.Listing.{Listing}
 use Rattle.dedup.specs.declared.fault.Fault.{Fault}
 use Rattle.dedup.specs.declared.fault.Fault.TheVariants.{BadWords, Ids, Write}
 
--- What is printed of files without a fault, once these rounds have put their records into a set: the
--- rounds are a chain in which each record's insert was answered.
-pub record IsOutput (listing : Listing) (contents : List (List ℕ)) (rounds : List RoundEnd)
-    (output : List ℕ) : Type 0 where
+-- What is printed of files without a fault, once these rounds of the plan have put their records into a
+-- set: in the rounds each record's insert was answered.
+pub record IsOutput (plan : Plan) (listing : Listing) (contents : List (List ℕ))
+    (rounds : List RoundEnd) (output : List ℕ) : Type 0 where
   pub none : run_fault contents ≡ None
-  pub chain : IsRunChain (asked_of (run_records contents)) tried_turns rounds []
+  pub made : IsRunSoFar (run_records contents) plan rounds []
   pub text : IsListing listing (run_records contents) rounds output
 
 -- where memory was refused some rounds were made, and with any other fault of the files none
-abbrev pub HasRounds : List (List ℕ) → List RoundEnd → IdFault → Type 0
-HasRounds contents rounds NoMemory = (left : List ℕ)
-    × IsRunChain (asked_of (run_records contents)) tried_turns rounds left
-HasRounds contents rounds fault = rounds ≡ []
+abbrev pub HasRounds : Plan → List (List ℕ) → List RoundEnd → IdFault → Type 0
+HasRounds plan contents rounds NoMemory =
+    (left : List ℕ) × IsRunSoFar (run_records contents) plan rounds left
+HasRounds plan contents rounds fault = rounds ≡ []
 
 -- the whole output or a front of it was written, or nothing; `left` is what the inputs have left
-abbrev pub Prints : Listing → List (List ℕ) → List RoundEnd → Option (List ℕ)
+abbrev pub Prints : Plan → Listing → List (List ℕ) → List RoundEnd → Option (List ℕ)
     → Option (List ℕ) → Option (List ℕ) → Result (Unit {0}) Fault → Type 0
-Prints listing contents rounds left before now (Ok x) =
-    (output : List ℕ) × IsOutput listing contents rounds output × Appends before now output
-Prints listing contents rounds left before now (Err Write) = (output : List ℕ) × (n : ℕ)
-    × IsOutput listing contents rounds output × Appends before now (take n output)
-Prints listing contents rounds left before now (Err BadWords) =
+Prints plan listing contents rounds left before now (Ok x) =
+    (output : List ℕ) × IsOutput plan listing contents rounds output × Appends before now output
+Prints plan listing contents rounds left before now (Err Write) = (output : List ℕ) × (n : ℕ)
+    × IsOutput plan listing contents rounds output × Appends before now (take n output)
+Prints plan listing contents rounds left before now (Err BadWords) =
     (rounds ≡ []) × Keeps before now
-Prints listing contents rounds left before now (Err (Ids fault)) =
-    SaysOf contents left fault × HasRounds contents rounds fault × Keeps before now
+Prints plan listing contents rounds left before now (Err (Ids fault)) =
+    SaysOf contents left fault × HasRounds plan contents rounds fault × Keeps before now
+
+-- the plan of the rounds that the words ask for
+abbrev pub plan_asked : List (List ℕ) → Plan
+plan_asked words = plan_of (workers_asked words) (room_asked words)
 
 -- the same of the files that the words name
 abbrev pub Ends : Option Files → List (List ℕ) → List RoundEnd → Option (List ℕ)
     → Option (List ℕ) → Option (List ℕ) → Result (Unit {0}) Fault → Type 0
 Ends told words rounds left before now ending =
     (contents : List (List ℕ)) × AreContents told (files_named words) contents
-    × Prints (list_asked words) contents rounds left before now ending
+    × Prints (plan_asked words) (list_asked words) contents rounds left before now ending
 
 -- status 2 comes only where the words aren't the command; where they aren't, no other but 1 does
 pub record HasRead (words : List (List ℕ)) (status : ℕ) : Type 0 where
@@ -79,16 +83,17 @@ EndsWith status rounds told words left before now faults_before faults_now said_
     × Said (ending_line ending) faults_before faults_now said_before said_now
 
 -- the output of these files, or what refuses it
-abbrev pub Lists : Listing → List (List ℕ) → List RoundEnd → Option (List ℕ)
+abbrev pub Lists : Plan → Listing → List (List ℕ) → List RoundEnd → Option (List ℕ)
     → Result (Vec ℕ Global) Fault → Type 0
-Lists listing contents rounds left (Ok text) = IsOutput listing contents rounds text.items
-Lists listing contents rounds left (Err BadWords) = ⊥
-Lists listing contents rounds left (Err Write) = ⊥
-Lists listing contents rounds left (Err (Ids fault)) =
-    SaysOf contents left fault × HasRounds contents rounds fault
+Lists plan listing contents rounds left (Ok text) =
+    IsOutput plan listing contents rounds text.items
+Lists plan listing contents rounds left (Err BadWords) = ⊥
+Lists plan listing contents rounds left (Err Write) = ⊥
+Lists plan listing contents rounds left (Err (Ids fault)) =
+    SaysOf contents left fault × HasRounds plan contents rounds fault
 
 -- the same of the files of these names
-abbrev pub ListsFiles : Option Files → List (List ℕ) → List RoundEnd → Option (List ℕ) → Listing
-    → Result (Vec ℕ Global) Fault → Type 0
-ListsFiles told names rounds left listing result = (contents : List (List ℕ))
-    × AreContents told names contents × Lists listing contents rounds left result
+abbrev pub ListsFiles : Option Files → List (List ℕ) → Plan → List RoundEnd → Option (List ℕ)
+    → Listing → Result (Vec ℕ Global) Fault → Type 0
+ListsFiles told names plan rounds left listing result = (contents : List (List ℕ))
+    × AreContents told names contents × Lists plan listing contents rounds left result

@@ -1,6 +1,6 @@
 // The command: what the words of a run ask for.
 ghost use Rattle.std.specs.Prelude.{◌≡◌};
-ghost use Rattle.dedup.specs.Limits.{tried_turns};
+ghost use Rattle.dedup.specs.Rounds.{plan_of};
 
 use rounds::Plan;
 
@@ -58,8 +58,7 @@ pub(crate) struct Command<'a> {
 impl Command<'_> {
     /// How the rounds are planned.
     pub(crate) fn plan(&self) -> Plan
-        ensures { result
-            ≡ record { seats = self.now.workers; fast = tried_turns; turns = 0; room = self.now.room } }
+        ensures { result ≡ plan_of self.now.workers self.now.room }
     {
         Plan {
             seats: self.workers,

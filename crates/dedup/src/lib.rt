@@ -12,6 +12,7 @@
 mod command;
 mod crew;
 mod fault;
+mod growing;
 mod load;
 mod one_round;
 mod output;

@@ -53,8 +53,8 @@ pub(crate) fn one_round<R: Threads + Sync, G: Gate>(
     requires rising { IsStrictlyIncreasing keys.items }
     requires few { length keys.items ≤ max_keys }
     requires left { IsLeft phase.now.records.now left.now }
-    ensures { IfOk result (AddsRound phase.now.records.now phase.now.plan.seats
-        phase.now.plan.fast keys.items left.now) }
+    ensures { IfOk result (AddsRound phase.now.records.now phase.now.plan
+        keys.items left.now) }
 {
     let (round, passes) = started(alloc, keys, phase.plan)?;
     let job = Job {
@@ -113,8 +113,7 @@ fn close_round(
     requires job { IsJob records.now round left.now }
     requires some { 0 < length left.now }
     requires done { HaveDone records.now round left.now workers.items }
-    ensures { IfOk result (AddsRound records.now round.facts.seats round.plan.fast
-        round.facts.keys left.now) }
+    ensures { IfOk result (AddsRound records.now round.plan round.facts.keys left.now) }
 {
     let rests = rests_of(alloc, left, &workers)?;
     let Returned { passes, hands } = hand_in(alloc, workers)?;

@@ -4,6 +4,7 @@ ghost use Rattle.chain.specs.Chain.{RoundEnd};
 ghost use Rattle.dedup.specs.Output.{IsListing, kept_line};
 ghost use Rattle.dedup.specs.Records.{AreSorted};
 ghost use Rattle.dedup.specs.Rounds.{HasInserted};
+ghost use Rattle.step_core.specs.declared.layout.Plan.{Plan};
 ghost use Rattle.idfiles.specs.Print.{count_line, id_line};
 
 use crate::command::Listing;
@@ -20,8 +21,8 @@ pub(crate) fn text_of(
     inserted: &Inserted,
 ) -> Result<Vec<u8>, NoMemory>
     requires { All (λ number. number < length records.now) inserted.now.changed.items }
-    ensures { IfOk result (λ text. (rounds : List RoundEnd) (turns : ℕ)
-        → HasInserted records.now turns rounds inserted.now.keys.items []
+    ensures { IfOk result (λ text. (rounds : List RoundEnd) (plan : Plan)
+        → HasInserted records.now plan rounds inserted.now.keys.items []
         inserted.now.changed.items → IsListing listing records.now rounds text.items) }
 {
     match listing {

@@ -1,10 +1,8 @@
 // Rounds, one behind the other, until each record's insert was answered.
 ghost use Rattle.std.specs.Prelude.{◌≡◌, ℕ, ◌≤◌, List, [], length, All, IfOk};
 ghost use Rattle.std.specs.List.{range_with_len};
-ghost use Rattle.chain.specs.Chain.{IsRunChain};
 ghost use Rattle.step_core.specs.Limits.{max_keys};
-ghost use Rattle.dedup.specs.Records.{asked_of};
-ghost use Rattle.dedup.specs.Rounds.{HasInserted, HasWorkers, IsRunPlan};
+ghost use Rattle.dedup.specs.Rounds.{HasInserted, HasWorkers, IsRunPlan, IsRunSoFar};
 
 use crate::one_round::{EndedRound, one_round};
 use crate::so_far::SoFar;
@@ -47,9 +45,9 @@ pub(crate) fn insert_all<R: Threads + Sync, G: Gate>(
     requires few { length phase.now.records.now ≤ max_keys }
     requires none { so_far.old ≡ [] }
     ensures inserted { IfOk result (λ inserted. HasInserted phase.now.records.now
-        phase.now.plan.fast so_far.new inserted.keys.items [] inserted.changed.items) }
-    ensures chain { (left : List ℕ)
-        × IsRunChain (asked_of phase.now.records.now) phase.now.plan.fast so_far.new left }
+        phase.now.plan so_far.new inserted.keys.items [] inserted.changed.items) }
+    ensures so_far { (left : List ℕ)
+        × IsRunSoFar phase.now.records.now phase.now.plan so_far.new left }
     ensures workers { All (HasWorkers phase.now.plan.seats) so_far.new }
 {
     let mut keys = Vec::new(alloc);

@@ -1,7 +1,7 @@
 // The run: from words to a status.
 ghost use Rattle.std.specs.Prelude.{◌≡◌, [], length, map, All};
 ghost use Rattle.dedup.specs.Fault.{fault_line, no_memory, status_of, status_of_fault};
-ghost use Rattle.dedup.specs.Rounds.{HasWorkers, rounds_of};
+ghost use Rattle.dedup.specs.Rounds.{HasWorkers, plan_of, rounds_of};
 ghost use Rattle.dedup.specs.Run.{Ends, EndsWith, HasCauses, HasRead, ListsFiles, RoseAt, Said};
 ghost use Rattle.dedup.specs.Words.{KeepsLimits, texts, workers_asked};
 
@@ -123,7 +123,8 @@ fn list_of<R: Threads + Sync, I: Inputs, G: Gate>(
     requires fits { KeepsLimits asked.now }
     requires none { so_far.old ≡ [] }
     ensures lists { ListsFiles (I.files inputs.old)
-        (map (λ name. name.now) asked.now.files.items) so_far.new (I.left inputs.new)
+        (map (λ name. name.now) asked.now.files.items)
+        (plan_of asked.now.workers asked.now.room) so_far.new (I.left inputs.new)
         asked.now.listing result }
     ensures workers { All (HasWorkers asked.now.workers) so_far.new }
     ensures read { RoseAt 4 (status_of result) (I.faults inputs.old) (I.faults inputs.new) }

@@ -4,6 +4,7 @@ use std::test::Fail;
 
 mod faults;
 mod fixture;
+mod lone;
 mod rooms;
 mod words;
 mod workers;

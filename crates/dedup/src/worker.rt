@@ -4,6 +4,7 @@ ghost use Rattle.dedup.specs.Workers.{Goes, GoesThrough, HasBegun, HasWorked, Is
 ghost use Rattle.dedup.specs.declared.worker.Stop.TheVariants.{Finished};
 ghost use Rattle.step_core.specs.Limits.{max_calls};
 
+use crate::growing::grow_after;
 use fset::Outcome;
 use hash_set::insert;
 use idfiles::IdRecord;
@@ -61,8 +62,8 @@ pub(crate) struct Worker {
 }
 
 impl Worker {
-    /// Begins the inserts of the records of its part, in order, until one is refused. `left` has the
-    /// numbers of the records that are still to come.
+    /// Begins the inserts of the records of its part, in order, until one is refused, and grows the table
+    /// between them. `left` has the numbers of the records that are still to come.
     pub(crate) fn work<G: Gate>(&mut self, job: &Job<'_, G>, left: &[u32])
         requires job { IsJob job.now.records.now job.now.round.now left.now }
         requires ready { IsReady job.now.records.now job.now.round.now left.now self.old }
@@ -125,7 +126,10 @@ impl Hand {
         let outcome = insert(job.round, pass, id);
         job.gate.after(pass.number(), nth);
         match outcome {
-            Outcome::Done(answered) => self.note(number, answered.changed),
+            Outcome::Done(answered) => {
+                grow_after(job.round, pass, answered);
+                self.note(number, answered.changed)
+            }
             // The call has no entry, and is settled once the round has ended.
             Outcome::Busy | Outcome::Full => Stop::Refused,
         }

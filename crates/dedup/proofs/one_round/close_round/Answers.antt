@@ -53,7 +53,7 @@ returns c =
     let rests = c.in_ok-rests.rests.items in
     let rests_are = c.in_ok-rests.ensures ∙ ap (λ (all : List Worker). flat_map (rest_of left) all) c.deref.ensures.value in
     IfOk-weaker c.settled_round.result (SettlesRound records c.in_ok-closing.closing c.in_ok-passes.field-0.hands.items rests)
-    (AddsRound records round.facts.seats round.plan.fast round.facts.keys left)
+    (AddsRound records round.plan round.facts.keys left)
     (λ ended settles.
     ends_round records round left workers c.requires.job c.requires.done c.in_ok-closing.closing closes rests ended
     (subst (λ (hs : List Hand). SettlesRound records c.in_ok-closing.closing hs rests ended) c.in_ok-passes.ensures.hands settles)

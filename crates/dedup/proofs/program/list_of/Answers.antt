@@ -1,11 +1,12 @@
-use Rattle.std.proofs.Common.{◌≡◌, ◌<◌, List, [], Err, length, rules, sym, ap, ◌∙◌, subst}
+use Rattle.std.proofs.Common.{◌≡◌, ◌<◌, List, [], Err, length, rules, sym, ◌∙◌, subst}
 use Rattle.std.specs.List.{All}
 use Rattle.idfiles.specs.declared.fault.IdFault.TheVariants.{NoMemory}
 use Rattle.idfiles.specs.declared.id_record.IdRecord.{IdRecord}
-use Rattle.dedup.specs.Rounds.{HasInserted}
+use Rattle.dedup.specs.Rounds.{HasInserted, plan_of}
 use Rattle.dedup.specs.Run.{ListsFiles}
 use Rattle.dedup.specs.declared.fault.Fault.TheVariants.{Ids}
 use Rattle.dedup.proofs.LawEnds.{lists_all, lists_refused, lists_unread, names_of}
+use Rattle.dedup.proofs.LawInserted.{so_far_is}
 use Rattle.dedup.proofs.LawKept.{changing_below}
 use Rattle.dedup.proofs.program.list_of.Goals as goal
 
@@ -15,10 +16,11 @@ returns-in_err-records-clause-lists g c =
     let told = g.I.Inputs.files c.args.inputs.now in
     let left = g.I.Inputs.left c.load.new.inputs in
     let files = c.args.asked.now.files.items in
+    let plan = plan_of c.args.asked.now.workers c.args.asked.now.room in
     let fault = c.in_err-records.field-0.0 in
     let is : c.from_residual.result ≡ Err (Ids fault) = search rules in
-    subst (ListsFiles told (names_of files) c.args.so_far.now left c.args.asked.now.listing) (sym is)
-    (lists_unread told left c.deref.result.now files c.deref.ensures.value c.args.so_far.now c.args.asked.now.listing fault
+    subst (ListsFiles told (names_of files) plan c.args.so_far.now left c.args.asked.now.listing) (sym is)
+    (lists_unread told left c.deref.result.now files c.deref.ensures.value plan c.args.so_far.now c.args.asked.now.listing fault
     c.requires.none c.in_err-records.ensures.answer)
 
 -- memory was refused in a round
@@ -27,12 +29,13 @@ returns-in_err-inserted-clause-lists g c =
     let told = g.I.Inputs.files c.args.inputs.now in
     let left = g.I.Inputs.left c.load.new.inputs in
     let files = c.args.asked.now.files.items in
+    let plan = plan_of c.args.asked.now.workers c.args.asked.now.room in
     let rounds = c.insert_all.new.so_far in
     let is : c.from_residual-in_err-inserted.result ≡ Err (Ids NoMemory) = search rules in
-    subst (ListsFiles told (names_of files) rounds left c.args.asked.now.listing) (sym is)
-    (lists_refused told left c.deref.result.now files c.deref.ensures.value rounds c.args.asked.now.listing c.in_ok-records.records
-    c.in_ok-records.ensures.answer c.deref-2.result.now c.deref-2.ensures.value c.plan.result.fast (ap (λ plan. plan.fast) c.plan.ensures)
-    c.in_err-inserted.ensures.chain)
+    subst (ListsFiles told (names_of files) plan rounds left c.args.asked.now.listing) (sym is)
+    (lists_refused told left c.deref.result.now files c.deref.ensures.value plan rounds c.args.asked.now.listing c.in_ok-records.records
+    c.in_ok-records.ensures.answer c.deref-2.result.now c.deref-2.ensures.value c.plan.result c.plan.ensures
+    c.in_err-inserted.ensures.so_far)
 
 -- the numbers are those of records
 pub text_of-requires : goal.text_of-requires
@@ -46,12 +49,13 @@ returns-in_err-text_of-clause-lists g c =
     let told = g.I.Inputs.files c.args.inputs.now in
     let left = g.I.Inputs.left c.load.new.inputs in
     let files = c.args.asked.now.files.items in
+    let plan = plan_of c.args.asked.now.workers c.args.asked.now.room in
     let rounds = c.insert_all.new.so_far in
     let is : c.from_residual-in_err-text_of.result ≡ Err (Ids NoMemory) = search rules in
-    subst (ListsFiles told (names_of files) rounds left c.args.asked.now.listing) (sym is)
-    (lists_refused told left c.deref.result.now files c.deref.ensures.value rounds c.args.asked.now.listing c.in_ok-records.records
-    c.in_ok-records.ensures.answer c.deref-2.result.now c.deref-2.ensures.value c.plan.result.fast (ap (λ plan. plan.fast) c.plan.ensures)
-    c.in_ok-inserted.ensures.chain)
+    subst (ListsFiles told (names_of files) plan rounds left c.args.asked.now.listing) (sym is)
+    (lists_refused told left c.deref.result.now files c.deref.ensures.value plan rounds c.args.asked.now.listing c.in_ok-records.records
+    c.in_ok-records.ensures.answer c.deref-2.result.now c.deref-2.ensures.value c.plan.result c.plan.ensures
+    c.in_ok-inserted.ensures.so_far)
 
 -- the list was made
 pub returns-clause-lists : goal.returns-clause-lists
@@ -59,13 +63,14 @@ returns-clause-lists g c =
     let told = g.I.Inputs.files c.args.inputs.now in
     let left = g.I.Inputs.left c.load.new.inputs in
     let files = c.args.asked.now.files.items in
+    let plan = plan_of c.args.asked.now.workers c.args.asked.now.room in
     let rounds = c.insert_all.new.so_far in
-    let fast = c.plan.result.fast in
+    let used = c.plan.result in
     let seen = c.deref-3.result.now in
-    let inserted : HasInserted seen fast rounds c.in_ok-inserted.inserted.keys.items [] c.in_ok-inserted.inserted.changed.items =
-    subst (λ (all : List IdRecord). HasInserted all fast rounds c.in_ok-inserted.inserted.keys.items []
+    let inserted : HasInserted seen used rounds c.in_ok-inserted.inserted.keys.items [] c.in_ok-inserted.inserted.changed.items =
+    subst (λ (all : List IdRecord). HasInserted all used rounds c.in_ok-inserted.inserted.keys.items []
     c.in_ok-inserted.inserted.changed.items) (c.deref-2.ensures.value ∙ sym c.deref-3.ensures.value)
     c.in_ok-inserted.ensures.inserted in
-    lists_all told left c.deref.result.now files c.deref.ensures.value rounds c.args.asked.now.listing c.in_ok-records.records
-    c.in_ok-records.ensures.answer seen c.deref-3.ensures.value fast c.in_ok-text_of.field-0 (ap (λ plan. plan.fast) c.plan.ensures)
-    inserted.chain (c.in_ok-text_of.ensures rounds fast inserted)
+    lists_all told left c.deref.result.now files c.deref.ensures.value plan rounds c.args.asked.now.listing c.in_ok-records.records
+    c.in_ok-records.ensures.answer seen c.deref-3.ensures.value used c.in_ok-text_of.field-0 c.plan.ensures
+    (so_far_is inserted) (c.in_ok-text_of.ensures rounds used inserted)
